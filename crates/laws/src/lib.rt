@@ -1,0 +1,1 @@
+// Laws and functions that the other crates cite: no code.
