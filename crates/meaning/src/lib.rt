@@ -1,0 +1,1 @@
+// Every definition that a reader must believe: no code.
