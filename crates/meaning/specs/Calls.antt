@@ -55,6 +55,10 @@ abbrev pub unless : {A : Type 0} → ℕ → (ℕ → A) → A → A
 unless zero refusal done = done
 unless (suc k) refusal done = refusal (suc k)
 
+-- 9 is tested last
+abbrev pub guarded : {A : Type 0} → List ℤ → (ℕ → A) → A → A
+guarded zs refusal done = unless (firstFault ((9, leaves zs) ∷ [])) refusal done
+
 -- the same from a file: its own refusals come first
 abbrev pub opened : {A : Type 0} → Got Problem → (ℕ → A) → (Campaign → A) → A
 opened (refused k) refusal done = refusal k
@@ -120,8 +124,8 @@ holding q w a l p = record { arcs = arcBytes q w (length (l .arcs)) a; cells = n
 abbrev pub relaxedOf : Campaign → ℕ → ℕ → ℤ → Lent → Done Bound
 relaxedOf q w n c l =
     let done : Done Bound = record { answer = boundOf (dual q w n c) (isExact relaxed q w); lent = holding q w (relaxedArcs q w n c) l (l .plan) } in
-    let guarded = unless (firstFault ((9, leaves (relaxedNumbers q w n c)) ∷ [])) (noBound l) done in
-    unless (firstFault ((8, wrongNumbers w n c) ∷ (11, shortDiagram q w l) ∷ [])) (noBound l) guarded
+    let last = guarded (relaxedNumbers q w n c) (noBound l) done in
+    unless (firstFault ((8, wrongNumbers w n c) ∷ (11, shortDiagram q w l) ∷ [])) (noBound l) last
 
 abbrev pub relaxedCall : List ℕ → ℕ → ℕ → ℤ → Lent → Done Bound
 relaxedCall f w n c l = opened (readOf f) (noBound l) (λ q. relaxedOf q w n c l)
@@ -131,8 +135,8 @@ abbrev pub restrictedOf : Campaign → ℕ → Lent → Done Bound
 restrictedOf q w l =
     let done : Done Bound =
     record { answer = boundOf (primal q w) (isExact restricted q w); lent = holding q w (restrictedArcs q w) l (planBytes (length (l .plan)) (shown q w)) } in
-    let guarded = unless (firstFault ((9, leaves (restrictedNumbers q w)) ∷ [])) (noBound l) done in
-    unless (firstFault ((8, wrongWidth w) ∷ (11, shortDiagram q w l || shortPlan q l) ∷ [])) (noBound l) guarded
+    let last = guarded (restrictedNumbers q w) (noBound l) done in
+    unless (firstFault ((8, wrongWidth w) ∷ (11, shortDiagram q w l || shortPlan q l) ∷ [])) (noBound l) last
 
 abbrev pub restrictedCall : List ℕ → ℕ → Lent → Done Bound
 restrictedCall f w l = opened (readOf f) (noBound l) (λ q. restrictedOf q w l)
@@ -148,8 +152,8 @@ pageOn q w n c s l =
     let g = page q c (z / slots q) s in
     let done : Done Count =
     record { answer = record { number = 0; count = length (g .written); more = g .more }; lent = holding q w (relaxedArcs q w n c) l (pageBytes z g) } in
-    let guarded = unless (firstFault ((9, leaves (relaxedNumbers q w n c)) ∷ [])) (noCount l) done in
-    unless (firstFault ((8, wrongNumbers w n c) ∷ (10, wrongStart q s) ∷ (11, shortDiagram q w l || shortPlan q l) ∷ [])) (noCount l) guarded
+    let last = guarded (relaxedNumbers q w n c) (noCount l) done in
+    unless (firstFault ((8, wrongNumbers w n c) ∷ (10, wrongStart q s) ∷ (11, shortDiagram q w l || shortPlan q l) ∷ [])) (noCount l) last
 
 abbrev pub pageCall : List ℕ → ℕ → ℕ → ℤ → List ℕ → Lent → Done Count
 pageCall f w n c s l = opened (readOf f) (noCount l) (λ q. pageOn q w n c s l)
