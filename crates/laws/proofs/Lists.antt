@@ -5,7 +5,7 @@ use mathlib.Core.Bool.{Bool, true, false, _&&_, cond, true≢false}
 use Prim.Native.Nat.{ℕ, zero, suc, _+_, _<_}
 use native.Mathlib.Omega.{arith}
 use lib.ListN.{length, getD}
-use Rattle.laws.specs.Lists.{keep, every, padded, gather, from}
+use Rattle.laws.specs.Lists.{keep, every, gather, from}
 
 -- ---- tests joined by &&
 pub and-l : (a b : Bool) → (a && b) ≡ true → a ≡ true
@@ -43,11 +43,11 @@ module _ {A B : Type 0} where
   in-map f (there h) = there (in-map f h)
 
 module _ {A : Type 0} where
-  pub in-left : {v : A} {l : List A} (m : List A) → In v l → In v (l ++ m)
+  in-left : {v : A} {l : List A} (m : List A) → In v l → In v (l ++ m)
   in-left m here = here
   in-left m (there h) = there (in-left m h)
 
-  pub in-right : {v : A} (l : List A) {m : List A} → In v m → In v (l ++ m)
+  in-right : {v : A} (l : List A) {m : List A} → In v m → In v (l ++ m)
   in-right [] h = h
   in-right (x ∷ l) h = there (in-right l h)
 
@@ -71,13 +71,8 @@ getD-from k zero v h = absurd (omega arith)
 getD-from k (suc n) zero h = omega arith
 getD-from k (suc n) (suc v) h = getD-from (suc k) n v (omega arith) ∙ omega arith
 
+-- ---- every and keep
 module _ {A : Type 0} where
-  pub length-padded : (n : ℕ) (d : A) (l : List A) → length (padded n d l) ≡ n
-  length-padded zero d l = refl
-  length-padded (suc n) d [] = ap suc (length-padded n d [])
-  length-padded (suc n) d (x ∷ l) = ap suc (length-padded n d l)
-
-  -- ---- every and keep
   pub every-append : (f : A → Bool) (l m : List A) → every f l ≡ true → every f m ≡ true → every f (l ++ m) ≡ true
   every-append f [] m e h = h
   every-append f (x ∷ l) m e h = and-both (f x) (every f (l ++ m)) (and-l (f x) (every f l) e) (every-append f l m (and-r (f x) (every f l) e) h)

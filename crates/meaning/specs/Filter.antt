@@ -4,10 +4,11 @@ use mathlib.Core.Bool.{Bool, true, false, _&&_, cond}
 use mathlib.Core.Option.{Option, none, some}
 use Prim.Native.Nat.{ℕ, zero, suc}
 use lib.Dec.{eqb}
-use lib.ListN.{getD}
+use lib.ListN.{length, getD}
 use lib.IntN.{ℤ, pos, _+ℤ_}
 use lib.Signed.{leZ}
 use Rattle.laws.specs.Z.{minZ}
+use Rattle.laws.specs.Lists.{from}
 use Rattle.meaning.specs.Plan.{Campaign}
 use Rattle.meaning.specs.Diagram.{State, child, mergedState, mayKeepAll, Arcs, starts, relaxed, restricted, built}
 
@@ -59,16 +60,15 @@ downAt q i k [] l = none
 downAt q i k (d ∷ ds) [] = none
 downAt q i k (d ∷ ds) (bs ∷ l) = meet (downNode q i k d 0 bs) (downAt q i k ds l)
 
--- the numbers of the next layer, from place k on: as many as it has nodes
-abbrev pub downTo : Campaign → ℕ → ℕ → List Numbers → List (List ℕ) → List (List ℕ) → List Numbers
-downTo q i k ds l [] = []
-downTo q i k ds l (n ∷ ns) = downAt q i k ds l ∷ downTo q i (suc k) ds l ns
+-- how many nodes the first layer of some arcs has; "layer n is one sink"
+abbrev pub nodeCount : Arcs → ℕ
+nodeCount [] = 1
+nodeCount (l ∷ ls) = length l
 
--- the down numbers of every layer, from layer i on, whose own are ds; the sink is the one node of layer n
+-- the down numbers of every layer, from layer i on, whose own are ds
 abbrev pub downs : Campaign → ℕ → List Numbers → Arcs → List (List Numbers)
 downs q i ds [] = ds ∷ []
-downs q i ds (l ∷ []) = ds ∷ (downAt q i 0 ds l ∷ []) ∷ []
-downs q i ds (l ∷ m ∷ ls) = ds ∷ downs q (suc i) (downTo q i 0 ds l m) (m ∷ ls)
+downs q i ds (l ∷ ls) = ds ∷ downs q (suc i) (map (λ k. downAt q i k ds l) (from 0 (nodeCount ls))) ls
 
 abbrev pub downNumbers : Campaign → Arcs → List (List Numbers)
 downNumbers q a = downs q 0 (begins q ∷ []) a
