@@ -16,6 +16,7 @@ abbrev pub along : (ℕ → Bool) → ℕ → Bool
 along f zero = false
 along f (suc j) = f j
 
+-- slot by slot, from place k
 abbrev pub walks : Arcs → ℕ → List ℕ → Bool
 walks [] k [] = eqb k 0
 walks [] k (v ∷ p) = false
@@ -34,6 +35,7 @@ paths q a = keep (isPath a) (plans (q .steps) (q .sets))
 abbrev pub bound : Campaign → Arcs → Option ℤ
 bound q a = Option·map (λ n. n .1) (getD (lastOr [] (downNumbers q a)) 0 none)
 
+-- of the relaxed diagram
 abbrev pub dual : Campaign → ℕ → ℕ → ℤ → Option ℤ
 dual q w n c = bound q (relaxedArcs q w n c)
 

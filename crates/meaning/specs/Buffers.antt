@@ -51,6 +51,7 @@ nodeCells k none u = replicate k (pos 0)
 nodeCells k (some d) none = replicate k (pos 0)
 nodeCells k (some d) (some u) = pos 1 ∷ pairCells (d .0) (u .0) ++ (d .1 ∷ u .1 ∷ [])
 
+-- node by node
 abbrev pub layerCells : ℕ → List Numbers → List Numbers → List (List ℤ)
 layerCells k [] us = []
 layerCells k (d ∷ ds) [] = []

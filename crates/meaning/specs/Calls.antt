@@ -18,21 +18,25 @@ use Rattle.meaning.specs.File.{Got, refused, got, readOf}
 use Rattle.meaning.specs.Running.{relaxedNumbers, restrictedNumbers, leaves}
 
 -- ---- answers: "an accepted call has number 0"; beside a refusal's number the room "is all zero and no"
+-- of reading
 pub record Read : Type 0 where
   pub number : ℕ
   pub problem : Problem
 
+-- of the judge
 pub record Judged : Type 0 where
   pub number : ℕ
   pub lawful : Bool
   pub cost : ℤ
 
+-- of a builder: is there a bound, the bound, exact or open
 pub record Bound : Type 0 where
   pub number : ℕ
   pub present : Bool
   pub bound : ℤ
   pub exact : Bool
 
+-- of a page: how many plans, and whether there are more
 pub record Count : Type 0 where
   pub number : ℕ
   pub count : ℕ
@@ -68,6 +72,7 @@ opened (got p s) refusal done = done (campaign p)
 abbrev pub wrongWidth : ℕ → Bool
 wrongWidth w = not (leb 1 w && leb w mostWidth)
 
+-- all three
 abbrev pub wrongNumbers : ℕ → ℕ → ℤ → Bool
 wrongNumbers w n c = wrongWidth w || not (leb n mostRounds && size limit c)
 
@@ -79,10 +84,12 @@ wrongStart q s = not (eqb (length s) 0 || eqb (length s) (slots q))
 abbrev pub shortDiagram : Campaign → ℕ → Lent → Bool
 shortDiagram q w l = ltb (length (l .arcs)) (arcsNeed q w) || ltb (length (l .cells)) (cellsNeed q w)
 
+-- "a buffer of at least n bytes", for a plan or a page
 abbrev pub shortPlan : Campaign → Lent → Bool
 shortPlan q l = ltb (length (l .plan)) (slots q)
 
 -- ---- reading
+-- a refusal's problem has no entry
 abbrev pub read : List ℕ → Read
 read f = answer (readOf f)
   where
@@ -94,10 +101,12 @@ read f = answer (readOf f)
 abbrev pub judged : Campaign → List ℕ → Judged
 judged q p = let t = lawful q p in record { number = 0; lawful = t; cost = cond t (cost q p) (pos 0) }
 
+-- from a file
 abbrev pub judge : List ℕ → List ℕ → Judged
 judge f p = opened (readOf f) (λ k. record { number = k; lawful = false; cost = pos 0 }) (λ q. judged q p)
 
 -- ---- the better of two plans
+-- which slice is handed back
 pub data Choice : Type 0 where
   emptyStart standing new : Choice
 
@@ -105,14 +114,17 @@ pub data Choice : Type 0 where
 abbrev pub betterOf : Campaign → List ℕ → List ℕ → Choice
 betterOf q a b = cond (lawful q a) (cond (lawful q b && ltZ (cost q b) (cost q a)) new standing) (cond (lawful q b) new emptyStart)
 
+-- from a file: "or the file would be refused"
 abbrev pub better : List ℕ → List ℕ → List ℕ → Choice
 better f a b = opened (readOf f) (λ k. emptyStart) (λ q. betterOf q a b)
 
 -- ---- the builders
+-- an accepted builder's answer
 abbrev pub boundOf : Option ℤ → Bool → Bound
 boundOf none e = record { number = 0; present = false; bound = pos 0; exact = e }
 boundOf (some z) e = record { number = 0; present = true; bound = z; exact = e }
 
+-- a refused builder's answer, and the buffers as they were
 abbrev pub noBound : Lent → ℕ → Done Bound
 noBound l k = record { answer = record { number = k; present = false; bound = pos 0; exact = false }; lent = l }
 
@@ -127,6 +139,7 @@ relaxedOf q w n c l =
     let last = guarded (relaxedNumbers q w n c) (noBound l) done in
     unless (firstFault ((8, wrongNumbers w n c) ∷ (11, shortDiagram q w l) ∷ [])) (noBound l) last
 
+-- from a file
 abbrev pub relaxedCall : List ℕ → ℕ → ℕ → ℤ → Lent → Done Bound
 relaxedCall f w n c l = opened (readOf f) (noBound l) (λ q. relaxedOf q w n c l)
 
@@ -138,10 +151,12 @@ restrictedOf q w l =
     let last = guarded (restrictedNumbers q w) (noBound l) done in
     unless (firstFault ((8, wrongWidth w) ∷ (11, shortDiagram q w l || shortPlan q l) ∷ [])) (noBound l) last
 
+-- from a file
 abbrev pub restrictedCall : List ℕ → ℕ → Lent → Done Bound
 restrictedCall f w l = opened (readOf f) (noBound l) (λ q. restrictedOf q w l)
 
 -- ---- the page: its buffers "afterwards hold that diagram"
+-- a refused page's answer, and the buffers as they were
 abbrev pub noCount : Lent → ℕ → Done Count
 noCount l k = record { answer = record { number = k; count = 0; more = false }; lent = l }
 
@@ -155,5 +170,6 @@ pageOn q w n c s l =
     let last = guarded (relaxedNumbers q w n c) (noCount l) done in
     unless (firstFault ((8, wrongNumbers w n c) ∷ (10, wrongStart q s) ∷ (11, shortDiagram q w l || shortPlan q l) ∷ [])) (noCount l) last
 
+-- from a file
 abbrev pub pageCall : List ℕ → ℕ → ℕ → ℤ → List ℕ → Lent → Done Count
 pageCall f w n c s l = opened (readOf f) (noCount l) (λ q. pageOn q w n c s l)

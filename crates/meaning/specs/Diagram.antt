@@ -16,6 +16,7 @@ use Rattle.meaning.specs.Plan.{Rule, Campaign, allows, stepsOf}
 abbrev pub Pair : Type 0
 Pair = ℤ × ℤ
 
+-- a node's state: a pair for every rule
 abbrev pub State : Type 0
 State = List Pair
 
@@ -23,6 +24,7 @@ State = List Pair
 abbrev pub merged : Pair → Pair → Pair
 merged p q = (minZ (p .0) (q .0), maxZ (p .1) (q .1))
 
+-- place by place
 abbrev pub mergedState : State → State → State
 mergedState [] t = t
 mergedState (p ∷ s) [] = p ∷ s
@@ -104,6 +106,7 @@ abbrev pub arrive : Node → List Node → List Node
 arrive c [] = c ∷ []
 arrive c (n ∷ ns) = cond (has (c .0) n) ((n .0, minZ (n .1) (c .1)) ∷ ns) (n ∷ arrive c ns)
 
+-- the arrivals one after the other, none where there is no arc
 abbrev pub distinct : List Node → List (Option Node) → List Node
 distinct seen [] = seen
 distinct seen (none ∷ os) = distinct seen os
@@ -114,10 +117,12 @@ abbrev pub placed : Node → List Node → List Node
 placed c [] = c ∷ []
 placed c (n ∷ ns) = cond (leZ (c .1) (n .1)) (c ∷ n ∷ ns) (n ∷ placed c ns)
 
+-- all of them in their order
 abbrev pub ranked : List Node → List Node
 ranked [] = []
 ranked (c ∷ cs) = placed c (ranked cs)
 
+-- the states of the next layer, from the arrivals of each node
 abbrev pub states : List (List (Option Node)) → List Node
 states os = ranked (distinct [] (flat os))
 
@@ -129,6 +134,7 @@ pub data Builder : Type 0 where
 abbrev pub mergedNode : Node → Node → Node
 mergedNode a b = (mergedState (a .0) (b .0), minZ (a .1) (b .1))
 
+-- one node for a list of them
 abbrev pub mergedAll : Node → List Node → Node
 mergedAll n [] = n
 mergedAll n (m ∷ ms) = mergedAll (mergedNode n m) ms
@@ -148,6 +154,7 @@ abbrev pub placeByte : Builder → ℕ → ℕ → ℕ
 placeByte relaxed w k = suc (min k (w - 1))
 placeByte restricted w k = cond (ltb k w) (suc k) 0
 
+-- "0 for no arc"
 abbrev pub arcByte : Builder → ℕ → List Node → Option Node → ℕ
 arcByte b w ts none = 0
 arcByte b w ts (some c) = placeByte b w (place (has (c .0)) ts)
@@ -181,6 +188,7 @@ starts rs = map (λ r. (r .start, r .start)) rs
 abbrev pub source : Campaign → List Node
 source q = (starts (q .rules), pos 0) ∷ []
 
+-- all layers of a diagram, by 01's order of states
 abbrev pub layersOf : Builder → Campaign → ℕ → List Layer
 layersOf b q w = layers b firstAppearance q w 0 (source q) (q .sets)
 
@@ -188,6 +196,7 @@ layersOf b q w = layers b firstAppearance q w 0 (source q) (q .sets)
 abbrev pub Arcs : Type 0
 Arcs = List (List (List ℕ))
 
+-- the arcs as they were built
 abbrev pub built : Builder → Campaign → ℕ → Arcs
 built b q w = map (λ l. l .arcs) (layersOf b q w)
 

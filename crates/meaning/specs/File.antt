@@ -23,9 +23,11 @@ pub data Got (A : Type 0) : Type 0 where
   refused : ℕ → Got A
   got : A → List ℕ → Got A
 
+-- reads a value from the front of some bytes
 abbrev pub Reader : Type 0 → Type 0
 Reader A = List ℕ → Got A
 
+-- goes on behind a value, and stops at a refusal
 abbrev pub onward : {A B : Type 0} → Got A → (A → Reader B) → Got B
 onward (refused k) f = refused k
 onward (got a s) f = f a s
@@ -34,12 +36,15 @@ onward (got a s) f = f a s
 abbrev pub _>>=_ : {A B : Type 0} → Reader A → (A → Reader B) → Reader B
 _>>=_ r f s = onward (r s) f
 
+-- the same, where the value is not wanted
 abbrev pub _>>_ : {A B : Type 0} → Reader A → Reader B → Reader B
 _>>_ r f s = onward (r s) (λ a. f)
 
+-- a value, with no byte read
 abbrev pub gives : {A : Type 0} → A → Reader A
 gives a s = got a s
 
+-- a refusal, whatever follows
 abbrev pub refuses : {A : Type 0} → ℕ → Reader A
 refuses k s = refused k
 
@@ -66,11 +71,11 @@ ended s = checked 7 (eqb (length s) 0) s
 abbrev pub saidOf : Format → Terms → List ℕ → Said
 saidOf f t b = record { terms = t; lb = signed 4 (take 4 b); ub = signed 4 (take 4 (drop 4 b)); lead = signed (f .leadBytes) (drop 8 b) }
 
--- 1, among: "one byte, the value set S; a 32-bit set of slots; lb and ub"
+-- 1, among: "one byte, the value set S", "a 32-bit set of slots", "lb and ub"
 abbrev pub amongBody : Format → List ℕ → Said
 amongBody f b = let k = f .setBytes in saidOf f (among (little (take k b)) (little (take 4 (drop k b)))) (drop (k + 4) b)
 
--- 2, sum: "n coefficients of 16 bits; lb and ub"
+-- 2, sum: "n coefficients of 16 bits", "lb and ub"
 abbrev pub sumBody : Format → ℕ → List ℕ → Said
 sumBody f n b = saidOf f (sums (map (signed 2) (parted n 2 b))) (drop (n * 2) b)
 
@@ -87,6 +92,7 @@ kindNext f n k =
     cond (eqb k 1) (bodyNext f n (f .setBytes + 4) (amongBody f))
     (cond (eqb k 2) (bodyNext f n (n * 2) (sumBody f n)) (refuses 6))
 
+-- "for each rule its kind byte present, its kind, its body present, its fields"
 abbrev pub rulesNext : Format → ℕ → ℕ → Reader (List Said)
 rulesNext f n zero = gives []
 rulesNext f n (suc m) = do
@@ -104,7 +110,7 @@ mark = 82 ∷ 84 ∷ 80 ∷ []
 abbrev pub formatNext : ℕ → Reader Format
 formatNext v = cond (eqb v 1) (gives version1) (refuses 3)
 
--- "n bytes, one step set per slot; n weights of 32 bits; then m rules"
+-- "n bytes, one step set per slot", "n weights of 32 bits", "then m rules"
 abbrev pub problemNext : Format → ℕ → ℕ → Reader Problem
 problemNext f n m = do
   checked 4 (rightHead n m)
@@ -135,10 +141,12 @@ abbrev pub signedBytes : ℕ → ℤ → List ℕ
 signedBytes k (pos u) = bytes k u
 signedBytes k (negsuc u) = bytes k (256 ^ k - 1 - u)
 
+-- the kind, then S and the slots, or the coefficients
 abbrev pub termBytes : Format → Terms → List ℕ
 termBytes f (among s t) = 1 ∷ bytes (f .setBytes) s ++ bytes 4 t
 termBytes f (sums c) = 2 ∷ gather (signedBytes 2) c
 
+-- a rule, lb, ub and the lead-in behind its terms
 abbrev pub ruleBytes : Format → Said → List ℕ
 ruleBytes f r = termBytes f (r .terms) ++ signedBytes 4 (r .lb) ++ signedBytes 4 (r .ub) ++ signedBytes (f .leadBytes) (r .lead)
 

@@ -41,6 +41,7 @@ abbrev pub upArc : Campaign → ℕ → List Numbers → ℕ → ℕ → Numbers
 upArc q i us v zero = none
 upArc q i us v (suc k) = over q i v (getD us k none)
 
+-- over all outgoing arcs
 abbrev pub upNode : Campaign → ℕ → List Numbers → ℕ → List ℕ → Numbers
 upNode q i us v [] = none
 upNode q i us v (b ∷ bs) = meet (upArc q i us v b) (upNode q i us (suc v) bs)
@@ -55,6 +56,7 @@ abbrev pub downNode : Campaign → ℕ → ℕ → Numbers → ℕ → List ℕ 
 downNode q i k d v [] = none
 downNode q i k d v (b ∷ bs) = let rest = downNode q i k d (suc v) bs in cond (eqb b (suc k)) (meet (over q i v d) rest) rest
 
+-- over the arcs of every parent
 abbrev pub downAt : Campaign → ℕ → ℕ → List Numbers → List (List ℕ) → Numbers
 downAt q i k [] l = none
 downAt q i k (d ∷ ds) [] = none
@@ -70,28 +72,34 @@ abbrev pub downs : Campaign → ℕ → List Numbers → Arcs → List (List Num
 downs q i ds [] = ds ∷ []
 downs q i ds (l ∷ ls) = ds ∷ downs q (suc i) (map (λ k. downAt q i k ds l) (from 0 (nodeCount ls))) ls
 
+-- the down numbers of all layers
 abbrev pub downNumbers : Campaign → Arcs → List (List Numbers)
 downNumbers q a = downs q 0 (begins q ∷ []) a
 
+-- the up numbers of all layers
 abbrev pub upNumbers : Campaign → Arcs → List (List Numbers)
 upNumbers q a = ups q 0 a
 
 -- ---- all arcs, slot by slot, parent by parent, step by step: what f makes of slot, step, parent's down number, children's up numbers and byte
 module _ {A : Type 0} where
+  -- of a node, from step v on
   abbrev pub eachStep : (ℕ → ℕ → A) → ℕ → List ℕ → List A
   eachStep f v [] = []
   eachStep f v (b ∷ bs) = f v b ∷ eachStep f (suc v) bs
 
+  -- of a layer, with its down numbers
   abbrev pub eachParent : (Numbers → ℕ → ℕ → A) → List Numbers → List (List ℕ) → List (List A)
   eachParent f ds [] = []
   eachParent f [] (bs ∷ l) = []
   eachParent f (d ∷ ds) (bs ∷ l) = eachStep (f d) 0 bs ∷ eachParent f ds l
 
+  -- from layer i on, with the numbers of its layers
   abbrev pub eachSlot : (ℕ → List Numbers → Numbers → ℕ → ℕ → A) → ℕ → List (List Numbers) → List (List Numbers) → Arcs → List (List (List A))
   eachSlot f i ds us [] = []
   eachSlot f i [] us (l ∷ ls) = []
   eachSlot f i (d ∷ ds) us (l ∷ ls) = eachParent (f i (getD us 1 [])) d l ∷ eachSlot f (suc i) ds (tail us) ls
 
+  -- of the whole diagram, with the numbers of its own arcs
   abbrev pub eachArc : (ℕ → List Numbers → Numbers → ℕ → ℕ → A) → Campaign → Arcs → List (List (List A))
   eachArc f q a = eachSlot f 0 (downNumbers q a) (upNumbers q a) a
 
@@ -110,11 +118,12 @@ stays e q (some d) none = false
 stays onPath q (some d) (some u) = true
 stays (within c) q (some d) (some u) = mayKeepAll (q .rules) (d .0) (u .0) && leZ (d .1 +ℤ u .1) c
 
+-- the byte that remains of an arc's byte
 abbrev pub testArc : Test → Campaign → ℕ → List Numbers → Numbers → ℕ → ℕ → ℕ
 testArc e q i us d v zero = 0
 testArc e q i us d v (suc k) = cond (stays e q (over q i v d) (getD us k none)) (suc k) 0
 
--- "all numbers from the arcs present at its start. Then all arcs are tested and the failing ones fall together"
+-- "a round reckons all up and down numbers from the arcs present at its start. Then all arcs are tested and the failing ones fall together"
 abbrev pub drops : Test → Campaign → Arcs → Arcs
 drops e q a = eachArc (testArc e q) q a
 
@@ -128,8 +137,10 @@ abbrev pub swept : Campaign → Arcs → Arcs
 swept q a = drops onPath q a
 
 -- ---- the two diagrams
+-- the rounds are "run, relaxed only"
 abbrev pub relaxedArcs : Campaign → ℕ → ℕ → ℤ → Arcs
 relaxedArcs q w n c = swept q (rounds c q n (built relaxed q w))
 
+-- "takes no ceiling and no rounds"
 abbrev pub restrictedArcs : Campaign → ℕ → Arcs
 restrictedArcs q w = swept q (built restricted q w)

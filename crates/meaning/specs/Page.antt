@@ -28,9 +28,11 @@ pub record Page : Type 0 where
   pub written : List (List ℕ)
   pub more : Bool
 
+-- of a list of plans
 abbrev pub pageOf : ℕ → List (List ℕ) → Page
 pageOf k ps = record { written = take k ps; more = ltb k (length ps) }
 
+-- of the lawful plans within the ceiling after the start
 abbrev pub page : Campaign → ℤ → ℕ → List ℕ → Page
 page q c k s = pageOf k (listed q c s)
 

@@ -72,6 +72,7 @@ abbrev pub plans : ℕ → List ℕ → List (List ℕ)
 plans k [] = [] ∷ []
 plans k (s ∷ ss) = let rest = plans k ss in gather (λ v. map (λ p. v ∷ p) rest) (stepsOf k s)
 
+-- all lawful plans, in dictionary order
 abbrev pub lawfuls : Campaign → List (List ℕ)
 lawfuls q = keep (lawful q) (plans (q .steps) (q .sets))
 
@@ -87,6 +88,7 @@ abbrev pub cheaper : Campaign → List ℕ → Option (List ℕ) → Option (Lis
 cheaper q p none = some p
 cheaper q p (some b) = cond (ltZ (cost q b) (cost q p)) (some b) (some p)
 
+-- none of no plans
 abbrev pub cheapest : Campaign → List (List ℕ) → Option (List ℕ)
 cheapest q [] = none
 cheapest q (p ∷ ps) = cheaper q p (cheapest q ps)

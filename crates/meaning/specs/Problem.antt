@@ -10,18 +10,23 @@ use Rattle.laws.specs.Lists.{every}
 use Rattle.meaning.specs.Plan.{Rule, Campaign, bit}
 
 -- ---- the paper's greatest numbers
+-- "a rate step, 0 to 7"
 abbrev pub stepCount : ℕ
 stepCount = 8
 
+-- "n, 1 to 24"
 abbrev pub mostSlots : ℕ
 mostSlots = 24
 
+-- "m, the number of rules, 0 to 8"
 abbrev pub mostRules : ℕ
 mostRules = 8
 
+-- "width outside 1 to 16" is refused
 abbrev pub mostWidth : ℕ
 mostWidth = 16
 
+-- "rounds above 64" are refused
 abbrev pub mostRounds : ℕ
 mostRounds = 64
 
@@ -42,6 +47,7 @@ pub record Said : Type 0 where
   pub ub : ℤ
   pub lead : ℤ
 
+-- n step sets, n weights, m rules
 pub record Problem : Type 0 where
   pub sets : List ℕ
   pub weights : List ℤ
@@ -53,6 +59,7 @@ abbrev pub shareOf : Terms → ℕ → ℕ → ℤ
 shareOf (among s t) i v = cond (bit s v && bit t i) (pos 1) (pos 0)
 shareOf (sums c) i v = getD c i (pos 0) *ℤ pos v
 
+-- a rule as the theorems see it; its total starts with the lead-in
 abbrev pub ruleOf : Said → Rule
 ruleOf r = record { share = shareOf (r .terms); lb = r .lb; ub = r .ub; start = r .lead }
 
@@ -60,6 +67,7 @@ ruleOf r = record { share = shareOf (r .terms); lb = r .lb; ub = r .ub; start = 
 abbrev pub weighed : List ℤ → ℕ → ℕ → ℤ
 weighed w i v = getD w i (pos 0) *ℤ pos v
 
+-- the campaign of a problem
 abbrev pub campaign : Problem → Campaign
 campaign p = record { steps = stepCount; sets = p .sets; price = weighed (p .weights); rules = map ruleOf (p .rules) }
 
@@ -75,6 +83,7 @@ pub record Format : Type 0 where
   pub amongLead : ℕ
   pub sumLead : ℕ
 
+-- "the version, 1": weights to 10,000, coefficients to 1,000, bounds to 200,000
 abbrev pub version1 : Format
 version1 = record { version = 1; setBytes = 1; weight = 10000; coefficient = 1000; bound = 200000; leadBytes = 0; amongLead = 0; sumLead = 0 }
 
@@ -82,7 +91,7 @@ version1 = record { version = 1; setBytes = 1; weight = 10000; coefficient = 100
 abbrev pub size : ℕ → ℤ → Bool
 size m z = leZ (negℤ (pos m)) z && leZ z (pos m)
 
--- "n, 1 to 24", "m, 0 to 8"
+-- "n, 1 to 24", "m, the number of rules, 0 to 8"
 abbrev pub rightHead : ℕ → ℕ → Bool
 rightHead n m = leb 1 n && leb n mostSlots && leb m mostRules
 
@@ -95,6 +104,7 @@ abbrev pub rightTerms : Format → ℕ → Terms → Bool
 rightTerms f n (among s t) = eqb (t / 2 ^ n) 0
 rightTerms f n (sums c) = every (size (f .coefficient)) c
 
+-- a lead-in of its own range; version 1 has none but zero
 abbrev pub rightLead : Format → Terms → ℤ → Bool
 rightLead f (among s t) z = leZ (pos 0) z && leZ z (pos (f .amongLead))
 rightLead f (sums c) z = size (f .sumLead) z
@@ -123,6 +133,7 @@ abbrev pub holdsTerms : Format → ℕ → Terms → Bool
 holdsTerms f n (among s t) = ltb s (256 ^ f .setBytes)
 holdsTerms f n (sums c) = eqb (length c) n
 
+-- the whole problem
 abbrev pub holdsAll : Format → Problem → Bool
 holdsAll f p =
     let n = length (p .sets) in

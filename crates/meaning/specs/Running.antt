@@ -13,6 +13,7 @@ use Rattle.meaning.specs.Diagram.{State, child, reaches, Builder, relaxe
 use Rattle.meaning.specs.Filter.{Numbers, over, downNumbers, upNumbers, eachArc, drops, within, swept}
 
 -- ---- building: totals, reaches, and the sums of both
+-- both ends of every pair
 abbrev pub ends : State → List ℤ
 ends t = gather (λ p. p .0 ∷ p .1 ∷ []) t
 
@@ -28,15 +29,18 @@ layerNumbers q i s ss l =
     let e = reaches q (suc i) ss in
     ends e ++ gather (λ n. ends (n .0) ++ gather (λ v. let c = child (q .rules) i v (n .0) in ends c ++ meetingSums c e) (stepsOf (q .steps) s)) (l .nodes)
 
+-- from layer i on
 abbrev pub layersNumbers : Campaign → ℕ → List ℕ → List Layer → List ℤ
 layersNumbers q i [] ls = []
 layersNumbers q i (s ∷ ss) [] = []
 layersNumbers q i (s ∷ ss) (l ∷ ls) = layerNumbers q i s ss l ++ layersNumbers q (suc i) ss ls
 
+-- of the whole building, the reach of the campaign first
 abbrev pub buildNumbers : Builder → Campaign → ℕ → List ℤ
 buildNumbers b q w = ends (reaches q 0 (q .sets)) ++ layersNumbers q 0 (q .sets) (layersOf b q w)
 
 -- ---- filtering: totals and costs down and up, and the sums made in an arc test
+-- of a node in one direction
 abbrev pub numbersOf : Numbers → List ℤ
 numbersOf none = []
 numbersOf (some a) = a .1 ∷ ends (a .0)
@@ -47,6 +51,7 @@ passing none u = []
 passing (some d) none = []
 passing (some d) (some u) = numbersOf (some d) ++ (d .1 +ℤ u .1) ∷ meetingSums (d .0) (u .0)
 
+-- of an arc, none where there is no arc
 abbrev pub arcNumbers : Campaign → ℕ → List Numbers → Numbers → ℕ → ℕ → List ℤ
 arcNumbers q i us d v zero = []
 arcNumbers q i us d v (suc k) = passing (over q i v d) (getD us k none)
@@ -62,9 +67,11 @@ roundNumbers c q zero a = arcsNumbers q a ++ arcsNumbers q (swept q a)
 roundNumbers c q (suc n) a = arcsNumbers q a ++ roundNumbers c q n (drops (within c) q a)
 
 -- ---- of an operation; the restricted builder runs no round
+-- building, rounds and the closing sweep
 abbrev pub relaxedNumbers : Campaign → ℕ → ℕ → ℤ → List ℤ
 relaxedNumbers q w n c = buildNumbers relaxed q w ++ roundNumbers c q n (built relaxed q w)
 
+-- building and the closing sweep
 abbrev pub restrictedNumbers : Campaign → ℕ → List ℤ
 restrictedNumbers q w = buildNumbers restricted q w ++ roundNumbers (pos 0) q 0 (built restricted q w)
 
@@ -73,16 +80,20 @@ abbrev pub leaves : List ℤ → Bool
 leaves zs = not (every (size limit) zs)
 
 -- ---- the guard: from the campaign alone, the sum over the slots of the greatest size of a cost, and for each rule of a share
+-- the greatest size of a slot's number over its steps
 abbrev pub greatestSize : (ℕ → ℤ) → List ℕ → ℕ
 greatestSize f [] = 0
 greatestSize f (v ∷ vs) = max (natAbs (f v)) (greatestSize f vs)
 
+-- the sum over the slots from slot i on
 abbrev pub sizes : ℕ → (ℕ → ℕ → ℤ) → ℕ → List ℕ → ℕ
 sizes k f i [] = 0
 sizes k f i (s ∷ ss) = greatestSize (f i) (stepsOf k s) + sizes k f (suc i) ss
 
+-- of a rule, with the total that it starts with
 abbrev pub ruleSize : Campaign → Rule → ℕ
 ruleSize q r = natAbs (r .start) + sizes (q .steps) (r .share) 0 (q .sets)
 
+-- one of these is above the limit
 abbrev pub guard : Campaign → Bool
 guard q = not (every (λ z. leb z limit) (sizes (q .steps) (q .price) 0 (q .sets) ∷ map (ruleSize q) (q .rules)))
