@@ -18,7 +18,7 @@ use Rattle.meaning.specs.Buffers.{arcBytes, arcsIn, ofForm}
 use Rattle.meaning.specs.Page.{listed, walked, drawn}
 use Rattle.meaning.specs.File.{got, readOf, bytesOf}
 use Rattle.meaning.specs.Running.{guard}
-use Rattle.meaning.specs.Calls.{Lent, read, relaxedOf, pageCall}
+use Rattle.meaning.specs.Calls.{Judged, Bound, Lent, Done, Choice, emptyStart, standing, new, read, judge, better, relaxedOf, relaxedCall, restrictedCall, pageCall}
 
 -- ---- the paper's cases
 -- C, from document 004: "weights 2 −3 4 6, sum rule 2 3 5 5 within 7..15"
@@ -177,6 +177,48 @@ numbers =
 -- "the lent buffers unchanged"
 pub refusals-hold : (numbers ≡ 0 ∷ 1 ∷ 2 ∷ 3 ∷ 4 ∷ 5 ∷ 6 ∷ 6 ∷ 7 ∷ 0 ∷ 8 ∷ 8 ∷ 8 ∷ 10 ∷ 11 ∷ 9 ∷ []) × (pageCall fileC 2 64 (pos limit) [] short .lent ≡ short)
 refusals-hold = (refl, refl)
+
+-- ---- what the operations answer
+-- lawful; unlawful; of another length; a refused file
+abbrev judgements : List Judged
+judgements =
+    judge fileC (0 ∷ 0 ∷ 1 ∷ 1 ∷ [])
+    ∷ judge fileC (1 ∷ 1 ∷ 0 ∷ 0 ∷ [])
+    ∷ judge fileC (0 ∷ 0 ∷ 1 ∷ [])
+    ∷ judge (changed 3 2) (0 ∷ 0 ∷ 1 ∷ 1 ∷ [])
+    ∷ []
+
+abbrev judgement : ℕ → Bool → ℤ → Judged
+judgement k t z = record { number = k; lawful = t; cost = z }
+
+-- the lower cost, either way round; equal costs; one lawful; neither; a refused file
+abbrev choices : List Choice
+choices =
+    better fileC (0 ∷ 1 ∷ 1 ∷ 0 ∷ []) (1 ∷ 0 ∷ 0 ∷ 1 ∷ [])
+    ∷ better fileC (1 ∷ 0 ∷ 0 ∷ 1 ∷ []) (0 ∷ 1 ∷ 1 ∷ 0 ∷ [])
+    ∷ better fileC (0 ∷ 1 ∷ 0 ∷ 1 ∷ []) (1 ∷ 1 ∷ 1 ∷ 0 ∷ [])
+    ∷ better fileC (1 ∷ 1 ∷ 0 ∷ 0 ∷ []) (1 ∷ 0 ∷ 0 ∷ 1 ∷ [])
+    ∷ better fileC (1 ∷ 1 ∷ 0 ∷ 0 ∷ []) (0 ∷ [])
+    ∷ better (changed 3 2) (0 ∷ 1 ∷ 1 ∷ 0 ∷ []) (0 ∷ 1 ∷ 1 ∷ 0 ∷ [])
+    ∷ []
+
+-- C at width 2 and B restricted at width 2, a cell and a byte of each buffer past the need
+abbrev longer : Lent
+longer = record { arcs = replicate 65 170; cells = replicate 71 (pos 170); plan = replicate 5 170 }
+
+abbrev drawnC : Done Bound
+drawnC = relaxedCall fileC 2 64 (pos 0) longer
+
+abbrev drawnB : Done Bound
+drawnB = restrictedCall (bytesOf version1 problemB) 2 longer
+
+pub answers-hold : (judgements ≡ judgement 0 true (pos 10) ∷ judgement 0 false (pos 0) ∷ judgement 0 false (pos 0) ∷ judgement 3 false (pos 0) ∷ [])
+    × (choices ≡ standing ∷ new ∷ standing ∷ new ∷ emptyStart ∷ emptyStart ∷ [])
+    × (drawnC .answer ≡ record { number = 0; present = false; bound = pos 0; exact = false })
+    × (drawnC .lent ≡ record { arcs = replicate 65 0; cells = replicate 71 (pos 0); plan = replicate 5 170 })
+    × (drawnB .answer ≡ record { number = 0; present = true; bound = negsuc 1; exact = false })
+    × (drawnB .lent .plan ≡ 0 ∷ 0 ∷ 1 ∷ 1 ∷ 0 ∷ [])
+answers-hold = (refl, refl, refl, refl, refl, refl)
 
 -- ---- ranges, the guard, and bytes read as any arcs are
 -- the relaxed diagram of B at width 2, from its bytes
