@@ -1,2 +1,4 @@
 -- Laws that only proofs cite.
 pub mod Lists
+pub mod Each
+pub mod Parts

@@ -1,11 +1,11 @@
 -- Laws of the functions on lists: tests, what stands in a list, places, what is kept.
 use mathlib.Core.Path.{_≡_, refl, sym, _∙_, ap}
 use mathlib.Core.List.{List, [], _∷_, _++_, map}
-use mathlib.Core.Bool.{Bool, true, false, _&&_, cond, true≢false}
-use Prim.Native.Nat.{ℕ, zero, suc, _+_, _<_}
+use mathlib.Core.Bool.{Bool, true, false, _&&_, _||_, cond, true≢false}
+use Prim.Native.Nat.{ℕ, zero, suc, _+_, _≤_, _<_}
 use native.Mathlib.Omega.{arith}
-use lib.ListN.{length, getD}
-use Rattle.laws.specs.Lists.{keep, every, gather, from}
+use lib.ListN.{length, getD, take}
+use Rattle.laws.specs.Lists.{keep, every, lastOr, gather, from}
 
 -- ---- tests joined by &&
 pub and-l : (a b : Bool) → (a && b) ≡ true → a ≡ true
@@ -18,6 +18,35 @@ and-r false b e = absurd (true≢false (sym e))
 
 pub and-both : (a b : Bool) → a ≡ true → b ≡ true → (a && b) ≡ true
 and-both a b e f = rw (e, f)
+
+pub and-true : (a b : Bool) → b ≡ true → (a && b) ≡ a
+and-true true b e = e
+and-true false b e = refl
+
+pub and-false : (a b : Bool) → b ≡ false → (a && b) ≡ false
+and-false true b e = e
+and-false false b e = refl
+
+pub false-and : (a b : Bool) → a ≡ false → (a && b) ≡ false
+false-and a b e = rw e
+
+pub or-neither : (a b : Bool) → a ≡ false → b ≡ false → (a || b) ≡ false
+or-neither a b e f = rw (e, f)
+
+pub no-true : (t : Bool) → (t ≡ true → ⊥) → t ≡ false
+no-true true h = absurd (h refl)
+no-true false h = refl
+
+pub no-false : (t : Bool) → (t ≡ false → ⊥) → t ≡ true
+no-false true h = refl
+no-false false h = absurd (h refl)
+
+-- which of two a choice is
+pub cond-first : {A : Type 0} (t : Bool) (a b : A) → t ≡ true → cond t a b ≡ a
+cond-first t a b e = rw e
+
+pub cond-second : {A : Type 0} (t : Bool) (a b : A) → t ≡ false → cond t a b ≡ b
+cond-second t a b e = rw e
 
 -- ---- an element stands in a list
 pub data In {A : Type 0} (v : A) : List A → Type 0 where
@@ -51,10 +80,23 @@ module _ {A : Type 0} where
   in-right [] h = h
   in-right (x ∷ l) h = there (in-right l h)
 
+-- made of an element, of the one at a place
+pub in-made : {A B : Type 0} (f : A → List B) {x : A} {l : List A} {b : B} → In x l → In b (f x) → In b (gather f l)
+in-made f (here {l = l}) i = in-left (gather f l) i
+in-made f (there {u = u} h) i = in-right (f u) (in-made f h i)
+
+in-at : {A : Type 0} (l : List A) (k : ℕ) (d : A) → k < length l → In (getD l k d) l
+in-at [] k d h = absurd (omega arith)
+in-at (x ∷ l) zero d h = here
+in-at (x ∷ l) (suc k) d h = there (in-at l k d (omega arith))
+
 pub in-gather : {A B : Type 0} (f : A → List B) (l : List A) (k : ℕ) (d : A) {b : B} → k < length l → In b (f (getD l k d)) → In b (gather f l)
-in-gather f [] k d h i = absurd (omega arith)
-in-gather f (x ∷ l) zero d h i = in-left (gather f l) i
-in-gather f (x ∷ l) (suc k) d h i = in-right (f x) (in-gather f l k d (omega arith) i)
+in-gather f l k d h i = in-made f (in-at l k d h) i
+
+-- two functions that agree on what stands in a list
+pub map-same : {A B : Type 0} (f g : A → B) (l : List A) → ((x : A) → In x l → f x ≡ g x) → map f l ≡ map g l
+map-same f g [] h = refl
+map-same {B = B} f g (x ∷ l) h = rw (h x here) (ap (λ (m : List B). g x ∷ m) (map-same f g l (λ y i. h y (there i))))
 
 -- ---- places and lengths
 pub getD-map : {A B : Type 0} (f : A → B) (l : List A) (k : ℕ) (d : A) (e : B) → k < length l → getD (map f l) k e ≡ f (getD l k d)
@@ -70,6 +112,13 @@ pub getD-from : (k n v : ℕ) → v < n → getD (from k n) v 0 ≡ k + v
 getD-from k zero v h = absurd (omega arith)
 getD-from k (suc n) zero h = omega arith
 getD-from k (suc n) (suc v) h = getD-from (suc k) n v (omega arith) ∙ omega arith
+
+module _ {A : Type 0} where
+  -- a place that does not have the default is there
+  pub place-there : (l : List A) (k : ℕ) (d : A) → (getD l k d ≡ d → ⊥) → k < length l
+  place-there [] k d f = absurd (f refl)
+  place-there (x ∷ l) zero d f = omega arith
+  place-there (x ∷ l) (suc k) d f = omega (arith, place-there l k d f)
 
 -- ---- every and keep
 module _ {A : Type 0} where
@@ -96,3 +145,85 @@ module _ {A : Type 0} where
   pub keep-every : (f : A → Bool) (l : List A) → every f l ≡ true → keep f l ≡ l
   keep-every f [] e = refl
   keep-every f (x ∷ l) e = rw (and-l (f x) (every f l) e) (ap (λ (m : List A). x ∷ m) (keep-every f l (and-r (f x) (every f l) e)))
+
+  pub keep-length : (f : A → Bool) (l : List A) → length (keep f l) ≤ length l
+  keep-length f [] = omega arith
+  keep-length f (x ∷ l) = go (f x) (keep-length f l)
+    where
+      go : (t : Bool) → length (keep f l) ≤ length l → length (cond t (x ∷ keep f l) (keep f l)) ≤ suc (length l)
+      go true h = omega arith
+      go false h = omega arith
+
+  -- what a test that all pass implies, all pass
+  pub every-more : (f g : A → Bool) → ((x : A) → f x ≡ true → g x ≡ true) → (l : List A) → every f l ≡ true → every g l ≡ true
+  every-more f g h [] e = refl
+  every-more f g h (x ∷ l) e = and-both (g x) (every g l) (h x (and-l (f x) (every f l) e)) (every-more f g h l (and-r (f x) (every f l) e))
+
+  -- what two tests that all pass imply, all pass
+  pub every-so : (f g h : A → Bool) → ((x : A) → f x ≡ true → g x ≡ true → h x ≡ true) → (l : List A) → every f l ≡ true → every g l ≡ true → every h l ≡ true
+  every-so f g h k [] e d = refl
+  every-so f g h k (x ∷ l) e d =
+      and-both (h x) (every h l) (k x (and-l (f x) (every f l) e) (and-l (g x) (every g l) d)) (every-so f g h k l (and-r (f x) (every f l) e) (and-r (g x) (every g l) d))
+
+  -- a test that implies another one finds the same behind it
+  pub keep-keep : (f g : A → Bool) → ((x : A) → f x ≡ true → g x ≡ true) → (l : List A) → keep f l ≡ keep f (keep g l)
+  keep-keep f g h [] = refl
+  keep-keep f g h (x ∷ l) = go (f x) (g x) refl refl (keep-keep f g h l)
+    where
+      go : (s t : Bool) → f x ≡ s → g x ≡ t → keep f l ≡ keep f (keep g l) → cond s (x ∷ keep f l) (keep f l) ≡ keep f (cond t (x ∷ keep g l) (keep g l))
+      go true true a b e = rw a (ap (λ (m : List A). x ∷ m) e)
+      go true false a b e = absurd (true≢false (sym (h x a) ∙ b))
+      go false true a b e = rw a e
+      go false false a b e = e
+
+  -- two tests in either order
+  pub keep-swap : (f g : A → Bool) (l : List A) → keep f (keep g l) ≡ keep g (keep f l)
+  keep-swap f g [] = refl
+  keep-swap f g (x ∷ l) = go (f x) (g x) refl refl (keep-swap f g l)
+    where
+      go : (s t : Bool) → f x ≡ s → g x ≡ t → keep f (keep g l) ≡ keep g (keep f l) → keep f (cond t (x ∷ keep g l) (keep g l)) ≡ keep g (cond s (x ∷ keep f l) (keep f l))
+      go true true a b e = rw (a, b) (ap (λ (m : List A). x ∷ m) e)
+      go true false a b e = rw b e
+      go false true a b e = rw a e
+      go false false a b e = e
+
+  -- what holds of the first and of the rest holds of each
+  pub in-either : (P : A → Type 0) {v x : A} {l : List A} → P x → (In v l → P v) → In v (x ∷ l) → P v
+  in-either P h r here = h
+  in-either P h r (there i) = r i
+
+  pub in-kept : (f : A → Bool) {v : A} (l : List A) → In v (keep f l) → f v ≡ true
+  in-kept f [] h = elim h [ ]
+  in-kept f {v} (x ∷ l) h = go (f x) refl (λ i. in-kept f l i) h
+    where
+      go : (t : Bool) → f x ≡ t → (In v (keep f l) → f v ≡ true) → In v (cond t (x ∷ keep f l) (keep f l)) → f v ≡ true
+      go true e r i = in-either (λ u. f u ≡ true) e r i
+      go false e r i = r i
+
+  pub every-in : (f : A → Bool) {v : A} (l : List A) → every f l ≡ true → In v l → f v ≡ true
+  every-in f (x ∷ l) e here = and-l (f x) (every f l) e
+  every-in f (x ∷ l) e (there i) = every-in f l (and-r (f x) (every f l) e) i
+
+  -- tests that agree on all that is there keep the same
+  pub keep-agree : (f g : A → Bool) (l : List A) → ((x : A) → In x l → f x ≡ g x) → keep f l ≡ keep g l
+  keep-agree f g [] h = refl
+  keep-agree f g (x ∷ l) h = rw (h x here) (ap (λ (m : List A). cond (g x) (x ∷ m) m) (keep-agree f g l (λ y i. h y (there i))))
+
+  -- the last of the first ones passes what all pass
+  pub last-passes : (f : A → Bool) (x : A) (l : List A) (k : ℕ) → f x ≡ true → every f l ≡ true → f (lastOr x (take k l)) ≡ true
+  last-passes f x l zero e h = e
+  last-passes f x [] (suc k) e h = e
+  last-passes f x (y ∷ l) (suc k) e h = last-passes f y l k (and-l (f y) (every f l) h) (and-r (f y) (every f l) h)
+
+  -- ---- each element stands before all that follow it
+  abbrev pub Ordered : (A → A → Bool) → List A → Type 0
+  Ordered f [] = Unit {0}
+  Ordered f (x ∷ l) = (every (f x) l ≡ true) × Ordered f l
+
+  pub ordered-keep : (f : A → A → Bool) (g : A → Bool) (l : List A) → Ordered f l → Ordered f (keep g l)
+  ordered-keep f g [] s = tt
+  ordered-keep f g (x ∷ l) s = go (g x) (ordered-keep f g l (s .1))
+    where
+      go : (t : Bool) → Ordered f (keep g l) → Ordered f (cond t (x ∷ keep g l) (keep g l))
+      go true k = (every-keep (f x) g l (s .0), k)
+      go false k = k
