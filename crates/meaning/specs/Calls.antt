@@ -6,8 +6,7 @@ use Prim.Native.Nat.{ℕ, zero, suc, _/_}
 use lib.Dec.{eqb, ltb, leb}
 use lib.ListN.{length}
 use lib.IntN.{ℤ, pos}
-use lib.Signed.{ltZ}
-use Rattle.meaning.specs.Plan.{Campaign, slots, lawful, cost}
+use Rattle.meaning.specs.Plan.{Campaign, slots, lawful, cost, costsLess}
 use Rattle.meaning.specs.Problem.{Problem, campaign, mostWidth, mostRounds, limit, size, firstFault}
 use Rattle.meaning.specs.Diagram.{Arcs, relaxed, restricted, isExact}
 use Rattle.meaning.specs.Filter.{relaxedArcs, restrictedArcs}
@@ -112,7 +111,7 @@ pub data Choice : Type 0 where
 
 -- "a lawful one before an unlawful one, then the lower cost, then the standing one. If neither is lawful .. the empty start"
 abbrev pub betterOf : Campaign → List ℕ → List ℕ → Choice
-betterOf q a b = cond (lawful q a) (cond (lawful q b && ltZ (cost q b) (cost q a)) new standing) (cond (lawful q b) new emptyStart)
+betterOf q a b = cond (lawful q a) (cond (lawful q b && costsLess q b a) new standing) (cond (lawful q b) new emptyStart)
 
 -- from a file: "or the file would be refused"
 abbrev pub better : List ℕ → List ℕ → List ℕ → Choice

@@ -63,9 +63,17 @@ abbrev pub reaches : Campaign → ℕ → List ℕ → State
 reaches q i ss = map (λ r. reach (q .steps) r i ss) (q .rules)
 
 -- ---- the test of an arc: the totals behind it, and what the slots ahead can add
--- "child L + least reach of the next layer ≤ ub and child U + greatest reach ≥ lb"
+-- "child L + least reach of the next layer ≤ ub"
+abbrev pub lowFits : Rule → Pair → Pair → Bool
+lowFits r p e = leZ (p .0 +ℤ e .0) (r .ub)
+
+-- "child U + greatest reach ≥ lb"
+abbrev pub highFits : Rule → Pair → Pair → Bool
+highFits r p e = leZ (r .lb) (p .1 +ℤ e .1)
+
+-- both
 abbrev pub mayKeep : Rule → Pair → Pair → Bool
-mayKeep r p e = leZ (p .0 +ℤ e .0) (r .ub) && leZ (r .lb) (p .1 +ℤ e .1)
+mayKeep r p e = lowFits r p e && highFits r p e
 
 -- "for every rule"
 abbrev pub mayKeepAll : List Rule → State → State → Bool
@@ -200,6 +208,10 @@ Arcs = List (List (List ℕ))
 abbrev pub built : Builder → Campaign → ℕ → Arcs
 built b q w = map (λ l. l .arcs) (layersOf b q w)
 
+-- the next layer has at most W states
+abbrev pub narrow : ℕ → Layer → Bool
+narrow w l = leb (length (l .states)) w
+
 -- "exact if no layer 1 to n−1 had more than W states, else open"
 abbrev pub isExact : Builder → Campaign → ℕ → Bool
-isExact b q w = every (λ l. leb (length (l .states)) w) (layersOf b q w)
+isExact b q w = every (narrow w) (layersOf b q w)

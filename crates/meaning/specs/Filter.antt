@@ -109,6 +109,10 @@ pub data Test : Type 0 where
   onPath : Test
   within : ℤ → Test
 
+-- "if cost down + weight times step + cost up exceeds the ceiling" it fails
+abbrev pub affords : ℤ → State × ℤ → State × ℤ → Bool
+affords c d u = leZ (d .1 +ℤ u .1) c
+
 -- "an arc fails if its parent has no down number or its child no up number; if down L + share + up L > ub or
 -- down U + share + up U < lb for some rule; or if cost down + weight times step + cost up exceeds the ceiling".
 -- d has the parent's down numbers over the arc, u the child's up numbers
@@ -116,7 +120,7 @@ abbrev pub stays : Test → Campaign → Numbers → Numbers → Bool
 stays e q none u = false
 stays e q (some d) none = false
 stays onPath q (some d) (some u) = true
-stays (within c) q (some d) (some u) = mayKeepAll (q .rules) (d .0) (u .0) && leZ (d .1 +ℤ u .1) c
+stays (within c) q (some d) (some u) = mayKeepAll (q .rules) (d .0) (u .0) && affords c d u
 
 -- the byte that remains of an arc's byte
 abbrev pub testArc : Test → Campaign → ℕ → List Numbers → Numbers → ℕ → ℕ → ℕ

@@ -9,4 +9,3 @@ pub mod Page
 pub mod File
 pub mod Running
 pub mod Calls
-pub mod Cases

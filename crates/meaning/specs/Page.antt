@@ -1,6 +1,6 @@
 -- What stands on a page, and what do pages drawn one after another list?
 use mathlib.Core.List.{List, [], _∷_, _++_}
-use mathlib.Core.Bool.{Bool, _&&_, cond}
+use mathlib.Core.Bool.{Bool, true, false, _&&_, cond}
 use Prim.Native.Nat.{ℕ}
 use lib.Dec.{ltb}
 use lib.ListN.{length, take}
@@ -44,3 +44,8 @@ pageBytes z g = padded z 0 (flat (g .written))
 abbrev pub drawn : List ℕ → Campaign → ℤ → List ℕ → List (List ℕ)
 drawn [] q c s = []
 drawn (k ∷ ks) q c s = let g = page q c k s in let rest = drawn ks q c (lastOr s (g .written)) in g .written ++ cond (g .more) rest []
+
+-- one of these pages "says there is no more"
+abbrev pub ending : List ℕ → Campaign → ℤ → List ℕ → Bool
+ending [] q c s = false
+ending (k ∷ ks) q c s = let g = page q c k s in let rest = ending ks q c (lastOr s (g .written)) in cond (g .more) rest true

@@ -83,10 +83,14 @@ after [] (v ∷ p) = true
 after (u ∷ s) [] = false
 after (u ∷ s) (v ∷ p) = ltb u v || (eqb u v && after s p)
 
+-- the first costs less than the second
+abbrev pub costsLess : Campaign → List ℕ → List ℕ → Bool
+costsLess q p b = ltZ (cost q p) (cost q b)
+
 -- the cheapest of some plans and, "of equal ones, the first"
 abbrev pub cheaper : Campaign → List ℕ → Option (List ℕ) → Option (List ℕ)
 cheaper q p none = some p
-cheaper q p (some b) = cond (ltZ (cost q b) (cost q p)) (some b) (some p)
+cheaper q p (some b) = cond (costsLess q b p) (some b) (some p)
 
 -- none of no plans
 abbrev pub cheapest : Campaign → List (List ℕ) → Option (List ℕ)

@@ -13,7 +13,7 @@ use Rattle.meaning.specs.Plan.{Campaign, lawful, lawfuls, cost, cheapest
 use Rattle.meaning.specs.Problem.{limit, among, sums, Said, Problem, campaign, version1, inRange}
 use Rattle.meaning.specs.Diagram.{Arcs, relaxed, restricted, isExact}
 use Rattle.meaning.specs.Filter.{relaxedArcs}
-use Rattle.meaning.specs.Bound.{paths, isPath, dual, shown, primal}
+use Rattle.meaning.specs.Bound.{paths, isPath, dual, shown, primal, least}
 use Rattle.meaning.specs.Buffers.{arcBytes, arcsIn, ofForm}
 use Rattle.meaning.specs.Page.{listed, walked, drawn}
 use Rattle.meaning.specs.File.{got, readOf, bytesOf}
@@ -88,8 +88,8 @@ arePlans (p ∷ ps) (q ∷ qs) = same p q && arePlans ps qs
 abbrev hasPaths : Campaign → ℕ → ℕ → Bool
 hasPaths q w n = eqb (length (paths q (relaxedArcs q w 64 (pos limit)))) n
 
-abbrev passes : Campaign → ℕ → List ℕ → Bool
-passes q w p = isPath (relaxedArcs q w 64 (pos limit)) p
+abbrev hasPath : Campaign → ℕ → List ℕ → Bool
+hasPath q w p = isPath (relaxedArcs q w 64 (pos limit)) p
 
 abbrev dualIs : Campaign → ℕ → ℤ → Bool
 dualIs q w z = says (dual q w 64 (pos limit)) (some z)
@@ -105,7 +105,7 @@ marked =
     ∷ lawful C (0 ∷ 0 ∷ 1 ∷ 1 ∷ [])
     ∷ not (lawful C (1 ∷ 1 ∷ 0 ∷ 0 ∷ []))
     ∷ (hasPaths B 1 16 && dualIs B 1 (negsuc 3))
-    ∷ (hasPaths B 2 15 && dualIs B 2 (negsuc 3) && not (passes B 2 (0 ∷ 0 ∷ 0 ∷ 0 ∷ [])) && passes B 2 (1 ∷ 1 ∷ 1 ∷ 1 ∷ []))
+    ∷ (hasPaths B 2 15 && dualIs B 2 (negsuc 3) && not (hasPath B 2 (0 ∷ 0 ∷ 0 ∷ 0 ∷ [])) && hasPath B 2 (1 ∷ 1 ∷ 1 ∷ 1 ∷ []))
     ∷ (isExact relaxed B 3 && dualIs B 3 (negsuc 1))
     ∷ (isPlan (shown B 2) (0 ∷ 0 ∷ 1 ∷ 1 ∷ []) && says (primal B 2) (some (negsuc 1)) && not (isExact restricted B 2))
     ∷ cheapestIs A (0 ∷ 1 ∷ 0 ∷ 0 ∷ 1 ∷ []) (negsuc 11)
@@ -236,3 +236,18 @@ leaned =
 
 pub leaned-hold : holds leaned ≡ true
 leaned-hold = refl
+
+-- ---- what may not be claimed: equal bounds above the ceiling, and a cheaper lawful plan
+-- "sets {0,1} {0,1,3} {0,1,3} {0,1}, weights −1 −2 2 0, sum rule −2 −2 3 1 within 1..4, width 1, 2 rounds, ceiling −3"
+abbrev D : Campaign
+D = campaign (record {
+  sets = 3 ∷ 11 ∷ 11 ∷ 3 ∷ [];
+  weights = negsuc 0 ∷ negsuc 1 ∷ pos 2 ∷ pos 0 ∷ [];
+  rules = record { terms = sums (negsuc 1 ∷ negsuc 1 ∷ pos 3 ∷ pos 1 ∷ []); lb = pos 1; ub = pos 4; lead = pos 0 } ∷ [];
+})
+
+abbrev unclaimed : List Bool
+unclaimed = says (dual D 1 2 (negsuc 2)) (some (pos 0)) ∷ says (primal D 1) (some (pos 0)) ∷ says (least D) (some (negsuc 0)) ∷ []
+
+pub unclaimed-hold : holds unclaimed ≡ true
+unclaimed-hold = refl

@@ -1,0 +1,3 @@
+-- What is true of the meanings.
+-- the paper's own numbers
+pub mod Cases
