@@ -1,3 +1,11 @@
 -- What is true of the meanings.
 -- the paper's own numbers
 pub mod Cases
+-- building, rounds and the sweep lose no lawful plan, and no restricted path is unlawful
+pub mod Sound
+pub mod Walks
+pub mod Layers
+pub mod Loses
+pub mod Drops
+pub mod Keeps
+pub mod Restricted
