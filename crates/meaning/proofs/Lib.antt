@@ -9,3 +9,6 @@ pub mod Loses
 pub mod Drops
 pub mod Keeps
 pub mod Restricted
+-- pages
+pub mod Order
+pub mod Pages
