@@ -12,3 +12,9 @@ pub mod Restricted
 -- pages
 pub mod Order
 pub mod Pages
+-- bounds and exactness
+pub mod Allowed
+pub mod Attains
+pub mod Exact
+pub mod Cheapest
+pub mod Bounds
