@@ -18,3 +18,8 @@ pub mod Attains
 pub mod Exact
 pub mod Cheapest
 pub mod Bounds
+-- ranges
+pub mod Faultless
+pub mod Sizes
+pub mod Building
+pub mod Ranges
