@@ -23,3 +23,10 @@ pub mod Faultless
 pub mod Sizes
 pub mod Building
 pub mod Ranges
+-- the reader, and the refusals of the operations
+pub mod Table
+pub mod Rows
+pub mod Bytes
+pub mod Written
+pub mod Files
+pub mod Doors
