@@ -15,7 +15,7 @@ use Rattle.laws.specs.Z.{zarith, neg}
 use Rattle.laws.proofs.Lists.{and-l, and-r, and-both}
 use Rattle.laws.proofs.Parts.{Code}
 use Rattle.meaning.specs.Problem.{size}
-use Rattle.meaning.specs.File.{little, signed, bytes, signedBytes}
+use Rattle.meaning.specs.File.{little, belowHalf, signed, bytes, signedBytes}
 
 -- a file is a list of these
 abbrev pub isByte : ℕ → Bool
@@ -73,11 +73,13 @@ fits k (negsuc u) = ltb (2 * u + 1) (256 ^ k)
 signed-bytes : (k : ℕ) (z : ℤ) → fits k z ≡ true → signed k (signedBytes k z) ≡ z
 signed-bytes k (pos u) e =
     let h = ltb-true (2 * u) (256 ^ k) e in
-    rw (little-bytes k u (omega arith), e)
+    let plus : belowHalf k u ≡ true = omega (arith, lt-ltb) in
+    rw (little-bytes k u (omega arith), plus)
 signed-bytes k (negsuc u) e =
     let h = ltb-true (2 * u + 1) (256 ^ k) e in
     let v = 256 ^ k - 1 - u in
-    rw (little-bytes k v (omega arith), le-ltb (2 * v) (256 ^ k) (omega arith)) (ap negsuc (omega arith))
+    let minus : belowHalf k v ≡ false = omega (arith, le-ltb) in
+    rw (little-bytes k v (omega arith), minus) (ap negsuc (omega arith))
 
 module _ (k : ℕ) (b : List ℕ) (l : length b ≡ k) (e : every isByte b ≡ true) where
   under : little b < 256 ^ k
@@ -87,18 +89,18 @@ module _ (k : ℕ) (b : List ℕ) (l : length b ≡ k) (e : every isByte b ≡ t
   again = rw (← l) (bytes-little b e)
 
   bytes-signed : signedBytes k (signed k b) ≡ b
-  bytes-signed = go (ltb (2 * little b) (256 ^ k)) refl
+  bytes-signed = go (belowHalf k (little b)) refl
     where
-      go : (t : Bool) → ltb (2 * little b) (256 ^ k) ≡ t → signedBytes k (cond t (pos (little b)) (negsuc (256 ^ k - 1 - little b))) ≡ b
+      go : (t : Bool) → belowHalf k (little b) ≡ t → signedBytes k (cond t (pos (little b)) (negsuc (256 ^ k - 1 - little b))) ≡ b
       go true h = again
       go false h =
           let back : 256 ^ k - 1 - (256 ^ k - 1 - little b) ≡ little b = omega (arith, under) in
           rw back again
 
   signed-fits : fits k (signed k b) ≡ true
-  signed-fits = go (ltb (2 * little b) (256 ^ k)) refl
+  signed-fits = go (belowHalf k (little b)) refl
     where
-      go : (t : Bool) → ltb (2 * little b) (256 ^ k) ≡ t → fits k (cond t (pos (little b)) (negsuc (256 ^ k - 1 - little b))) ≡ true
+      go : (t : Bool) → belowHalf k (little b) ≡ t → fits k (cond t (pos (little b)) (negsuc (256 ^ k - 1 - little b))) ≡ true
       go true h = h
       go false h =
           let m = ltb-false (2 * little b) (256 ^ k) h in

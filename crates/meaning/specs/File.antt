@@ -14,9 +14,13 @@ abbrev pub little : List ℕ → ℕ
 little [] = 0
 little (b ∷ bs) = b + 256 * little bs
 
+-- below half of what k bytes hold
+abbrev pub belowHalf : ℕ → ℕ → Bool
+belowHalf k u = ltb (2 * u) (256 ^ k)
+
 -- "signed ones two's complement": the number of k bytes
 abbrev pub signed : ℕ → List ℕ → ℤ
-signed k b = let u = little b in cond (ltb (2 * u) (256 ^ k)) (pos u) (negsuc (256 ^ k - 1 - u))
+signed k b = let u = little b in cond (belowHalf k u) (pos u) (negsuc (256 ^ k - 1 - u))
 
 -- ---- a reader: a refusal's number, or a value and the bytes behind it
 pub data Got (A : Type 0) : Type 0 where
