@@ -1,10 +1,10 @@
--- When does an operation on an accepted file refuse? 8, 10 and 11 exactly as their rows say, and 9 never.
+-- When does an operation refuse, and with what? On an accepted file 8, 10 and 11 exactly as their rows say, and 9 never; with the number alone.
 use mathlib.Core.Path.{_≡_, refl, sym, ap, subst, _∙_}
 use mathlib.Core.List.{List, [], _∷_}
 use mathlib.Core.Bool.{Bool, true, false, not, _&&_, _||_, true≢false}
 use mathlib.Core.Logic.{_⊎_, inl, inr}
 use mathlib.Core.Option.{Option, none, some}
-use Prim.Native.Nat.{ℕ, zero, suc, _/_, _≤_}
+use Prim.Native.Nat.{ℕ, zero, suc, _≤_}
 use lib.Dec.{eqb, ltb, leb}
 use lib.ListN.{length}
 use borrow.Author.Tests.{leb-true, le-leb, ltb-false, le-ltb, eqb-true, eq-eqb, not-false}
@@ -15,12 +15,11 @@ use Rattle.laws.proofs.Lists.{and-l, and-r, and-both, no-false}
 use Rattle.meaning.specs.Plan.{Campaign, slots}
 use Rattle.meaning.specs.Problem.{Problem, campaign, mostWidth, mostRounds, limit, size, firstFault}
 use Rattle.meaning.specs.Diagram.{relaxed, restricted, isExact}
-use Rattle.meaning.specs.Filter.{relaxedArcs, restrictedArcs}
-use Rattle.meaning.specs.Bound.{dual, shown, primal}
-use Rattle.meaning.specs.Buffers.{arcsNeed, cellsNeed, planBytes}
-use Rattle.meaning.specs.Page.{Page, page, pageBytes}
-use Rattle.meaning.specs.File.{got, readOf}
-use Rattle.meaning.specs.Calls.{Bound, Count, Lent, Done, unless, wrongWidth, wrongNumbers, wrongStart, shortDiagram, shortPlan, boundOf, noBound, holding, relaxedCall, restrictedCall, noCount, pageCall}
+use Rattle.meaning.specs.Bound.{dual, primal}
+use Rattle.meaning.specs.Buffers.{arcsNeed, cellsNeed}
+use Rattle.meaning.specs.File.{Got, refused, got, readOf}
+use Rattle.meaning.specs.Running.{leaves, relaxedNumbers, restrictedNumbers}
+use Rattle.meaning.specs.Calls.{Bound, Count, Lent, Done, unless, guarded, opened, wrongWidth, wrongNumbers, wrongStart, shortDiagram, shortPlan, boundOf, noBound, relaxedDone, relaxedFault, relaxedCall, restrictedDone, restrictedFault, restrictedCall, noCount, pageDone, pageFault, pageCall}
 use Rattle.meaning.proofs.Ranges.{ranges, within-size, size-within}
 use Rattle.meaning.proofs.Bytes.{isByte}
 use Rattle.meaning.proofs.Files.{accepted-in-range}
@@ -135,38 +134,73 @@ module _ {N S R : Type 0} {a b c : Bool} (n : Tests a N) (s : Tests b S) (r : Te
   exactly : {m : ℕ} → m ≡ first → (k : ℕ) → (m ≡ k → Door N S R k) × (Door N S R k → m ≡ k)
   exactly e k = (λ f. subst (Door N S R) (sym e ∙ f) first-door, λ d. e ∙ door-first d)
 
--- what is refused has the refusal's number, what is served has 0
-given : {A : Type 0} (number : A → ℕ) (refusal : ℕ → A) (done : A) → ((k : ℕ) → number (refusal k) ≡ k) → number done ≡ 0 → (k : ℕ) → number (unless k refusal done) ≡ k
-given number refusal done r e zero = e
-given number refusal done r e (suc k) = r (suc k)
+-- ---- what is refused has the refusal's number, what is served has 0
+module _ {A : Type 0} (number : A → ℕ) (refusal : ℕ → A) where
+  -- an answer is served, or it is its number's refusal and nothing else
+  abbrev pub Alone : A → Type 0
+  Alone x = (number x ≡ 0) ⊎ (x ≡ refusal (number x))
+
+  module _ (same : (k : ℕ) → number (refusal k) ≡ k) where
+    given : (done : A) → number done ≡ 0 → (k : ℕ) → number (unless k refusal done) ≡ k
+    given done e zero = e
+    given done e (suc k) = same (suc k)
+
+    refused-alone : (k : ℕ) → Alone (refusal k)
+    refused-alone k = inr (ap refusal (sym (same k)))
+
+    unless-alone : (k : ℕ) (done : A) → Alone done → Alone (unless k refusal done)
+    unless-alone zero done h = h
+    unless-alone (suc k) done h = refused-alone (suc k)
+
+    -- 9 behind the others, and the file before them
+    call-alone : (g : Got Problem) (fault : Campaign → ℕ) (zs : Campaign → List ℤ) (done : Campaign → A) → ((q : Campaign) → number (done q) ≡ 0)
+        → Alone (opened g refusal (λ q. unless (fault q) refusal (guarded (zs q) refusal (done q))))
+    call-alone (refused k) fault zs done e = refused-alone k
+    call-alone (got p s) fault zs done e =
+        let q = campaign p in
+        unless-alone (fault q) (guarded (zs q) refusal (done q)) (unless-alone (firstFault ((9, leaves (zs q)) ∷ [])) (done q) (inl (e q)))
 
 bound-number : (z : Option ℤ) (t : Bool) → boundOf z t .number ≡ 0
 bound-number none t = refl
 bound-number (some z) t = refl
+
+-- ---- any file, arguments and buffers: "every refusal returns its number, no other answer, and the lent buffers unchanged"
+abbrev boundNumber : Done Bound → ℕ
+boundNumber x = x .answer .number
+
+abbrev countNumber : Done Count → ℕ
+countNumber x = x .answer .number
+
+pub relaxed-alone : (f : List ℕ) (w n : ℕ) (c : ℤ) (l : Lent) → Alone boundNumber (noBound l) (relaxedCall f w n c l)
+relaxed-alone f w n c l =
+    call-alone boundNumber (noBound l) (λ k. refl) (readOf f) (λ q. relaxedFault q w n c l) (λ q. relaxedNumbers q w n c) (λ q. relaxedDone q w n c l)
+    (λ q. bound-number (dual q w n c) (isExact relaxed q w))
+
+pub restricted-alone : (f : List ℕ) (w : ℕ) (l : Lent) → Alone boundNumber (noBound l) (restrictedCall f w l)
+restricted-alone f w l =
+    call-alone boundNumber (noBound l) (λ k. refl) (readOf f) (λ q. restrictedFault q w l) (λ q. restrictedNumbers q w) (λ q. restrictedDone q w l)
+    (λ q. bound-number (primal q w) (isExact restricted q w))
+
+pub page-alone : (f : List ℕ) (w n : ℕ) (c : ℤ) (s : List ℕ) (l : Lent) → Alone countNumber (noCount l) (pageCall f w n c s l)
+page-alone f w n c s l =
+    call-alone countNumber (noCount l) (λ k. refl) (readOf f) (λ q. pageFault q w n c s l) (λ q. relaxedNumbers q w n c) (λ q. pageDone q w n c s l) (λ q. refl)
 
 -- ---- the operations on an accepted file
 module _ (f : List ℕ) (low : every isByte f ≡ true) (p : Problem) (rest : List ℕ) (e : readOf f ≡ got p rest) where
   abbrev q : Campaign
   q = campaign p
 
-  -- 9 is never given: "refusals 8, 11" are left, or the service
-  pub relaxed-answer : (w n : ℕ) (c : ℤ) (l : Lent) → relaxedCall f w n c l ≡ unless (firstFault ((8, wrongNumbers w n c) ∷ (11, shortDiagram q w l) ∷ [])) (noBound l)
-      (record { answer = boundOf (dual q w n c) (isExact relaxed q w); lent = holding q w (relaxedArcs q w n c) l (l .plan) })
+  -- 9 is never given: the others are left, or the service
+  pub relaxed-answer : (w n : ℕ) (c : ℤ) (l : Lent)
+      → relaxedCall f w n c l ≡ unless (relaxedFault q w n c l) (noBound l) (relaxedDone q w n c l)
   relaxed-answer w n c l = rw (e, ranges p w n c (accepted-in-range f p rest low e .0) .0)
 
-  pub restricted-answer : (w : ℕ) (l : Lent) → restrictedCall f w l ≡ unless (firstFault ((8, wrongWidth w) ∷ (11, shortDiagram q w l || shortPlan q l) ∷ [])) (noBound l)
-      (record { answer = boundOf (primal q w) (isExact restricted q w); lent = holding q w (restrictedArcs q w) l (planBytes (length (l .plan)) (shown q w)) })
+  pub restricted-answer : (w : ℕ) (l : Lent)
+      → restrictedCall f w l ≡ unless (restrictedFault q w l) (noBound l) (restrictedDone q w l)
   restricted-answer w l = rw (e, ranges p w 0 (pos 0) (accepted-in-range f p rest low e .0) .1)
 
-  -- the page that is written, and what it answers
-  abbrev pub pageIn : ℤ → List ℕ → Lent → Page
-  pageIn c s l = page q c (length (l .plan) / slots q) s
-
   pub page-answer : (w n : ℕ) (c : ℤ) (s : List ℕ) (l : Lent)
-      → pageCall f w n c s l ≡ unless (firstFault ((8, wrongNumbers w n c) ∷ (10, wrongStart q s) ∷ (11, shortDiagram q w l || shortPlan q l) ∷ [])) (noCount l) (record {
-        answer = record { number = 0; count = length (pageIn c s l .written); more = pageIn c s l .more };
-        lent = holding q w (relaxedArcs q w n c) l (pageBytes (length (l .plan)) (pageIn c s l));
-      })
+      → pageCall f w n c s l ≡ unless (pageFault q w n c s l) (noCount l) (pageDone q w n c s l)
   page-answer w n c s l = rw (e, ranges p w n c (accepted-in-range f p rest low e .0) .0)
 
   -- the rows 8, 10, 11
@@ -175,18 +209,18 @@ module _ (f : List ℕ) (low : every isByte f ≡ true) (p : Problem) (rest : Li
       × (Door (RightNumbers w n c) (Unit {0}) (Enough q w l) k → relaxedCall f w n c l .answer .number ≡ k)
   relaxed-exactly w n c l k =
       exactly (numbers-test w n c) unasked (room-test q w l)
-      (ap (λ (x : Done Bound). x .answer .number) (relaxed-answer w n c l) ∙ given (λ (x : Done Bound). x .answer .number) (noBound l) _ (λ k. refl) (bound-number (dual q w n c) (isExact relaxed q w)) _) k
+      (ap boundNumber (relaxed-answer w n c l) ∙ given boundNumber (noBound l) (λ k. refl) (relaxedDone q w n c l) (bound-number (dual q w n c) (isExact relaxed q w)) (relaxedFault q w n c l)) k
 
   pub restricted-exactly : (w : ℕ) (l : Lent) (k : ℕ)
       → (restrictedCall f w l .answer .number ≡ k → Door (RightWidth w) (Unit {0}) (Enough q w l × EnoughPlan q l) k)
       × (Door (RightWidth w) (Unit {0}) (Enough q w l × EnoughPlan q l) k → restrictedCall f w l .answer .number ≡ k)
   restricted-exactly w l k =
       exactly (width-test w) unasked (page-test q w l)
-      (ap (λ (x : Done Bound). x .answer .number) (restricted-answer w l) ∙ given (λ (x : Done Bound). x .answer .number) (noBound l) _ (λ k. refl) (bound-number (primal q w) (isExact restricted q w)) _) k
+      (ap boundNumber (restricted-answer w l) ∙ given boundNumber (noBound l) (λ k. refl) (restrictedDone q w l) (bound-number (primal q w) (isExact restricted q w)) (restrictedFault q w l)) k
 
   pub page-exactly : (w n : ℕ) (c : ℤ) (s : List ℕ) (l : Lent) (k : ℕ)
       → (pageCall f w n c s l .answer .number ≡ k → Door (RightNumbers w n c) (RightStart q s) (Enough q w l × EnoughPlan q l) k)
       × (Door (RightNumbers w n c) (RightStart q s) (Enough q w l × EnoughPlan q l) k → pageCall f w n c s l .answer .number ≡ k)
   page-exactly w n c s l k =
       exactly (numbers-test w n c) (start-test q s) (page-test q w l)
-      (ap (λ (x : Done Count). x .answer .number) (page-answer w n c s l) ∙ given (λ (x : Done Count). x .answer .number) (noCount l) _ (λ k. refl) refl _) k
+      (ap countNumber (page-answer w n c s l) ∙ given countNumber (noCount l) (λ k. refl) (pageDone q w n c s l) refl (pageFault q w n c s l)) k

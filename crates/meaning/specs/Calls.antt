@@ -131,24 +131,40 @@ noBound l k = record { answer = record { number = k; present = false; bound = po
 abbrev pub holding : Campaign → ℕ → Arcs → Lent → List ℕ → Lent
 holding q w a l p = record { arcs = arcBytes q w (length (l .arcs)) a; cells = numberCells q w (length (l .cells)) a; plan = p }
 
--- refusals 8, 11, 9
+-- what is answered where nothing stands
+abbrev pub relaxedDone : Campaign → ℕ → ℕ → ℤ → Lent → Done Bound
+relaxedDone q w n c l = record { answer = boundOf (dual q w n c) (isExact relaxed q w); lent = holding q w (relaxedArcs q w n c) l (l .plan) }
+
+-- refusals 8, 11
+abbrev pub relaxedFault : Campaign → ℕ → ℕ → ℤ → Lent → ℕ
+relaxedFault q w n c l = firstFault ((8, wrongNumbers w n c) ∷ (11, shortDiagram q w l) ∷ [])
+
+-- then 9
 abbrev pub relaxedOf : Campaign → ℕ → ℕ → ℤ → Lent → Done Bound
 relaxedOf q w n c l =
-    let done : Done Bound = record { answer = boundOf (dual q w n c) (isExact relaxed q w); lent = holding q w (relaxedArcs q w n c) l (l .plan) } in
+    let done = relaxedDone q w n c l in
     let last = guarded (relaxedNumbers q w n c) (noBound l) done in
-    unless (firstFault ((8, wrongNumbers w n c) ∷ (11, shortDiagram q w l) ∷ [])) (noBound l) last
+    unless (relaxedFault q w n c l) (noBound l) last
 
 -- from a file
 abbrev pub relaxedCall : List ℕ → ℕ → ℕ → ℤ → Lent → Done Bound
 relaxedCall f w n c l = opened (readOf f) (noBound l) (λ q. relaxedOf q w n c l)
 
--- refusals 8, 11, 9; "takes no ceiling and no rounds"
+-- the plan shown beside the diagram
+abbrev pub restrictedDone : Campaign → ℕ → Lent → Done Bound
+restrictedDone q w l =
+    record { answer = boundOf (primal q w) (isExact restricted q w); lent = holding q w (restrictedArcs q w) l (planBytes (length (l .plan)) (shown q w)) }
+
+-- refusals 8, 11; "takes no ceiling and no rounds"
+abbrev pub restrictedFault : Campaign → ℕ → Lent → ℕ
+restrictedFault q w l = firstFault ((8, wrongWidth w) ∷ (11, shortDiagram q w l || shortPlan q l) ∷ [])
+
+-- then 9
 abbrev pub restrictedOf : Campaign → ℕ → Lent → Done Bound
 restrictedOf q w l =
-    let done : Done Bound =
-    record { answer = boundOf (primal q w) (isExact restricted q w); lent = holding q w (restrictedArcs q w) l (planBytes (length (l .plan)) (shown q w)) } in
+    let done = restrictedDone q w l in
     let last = guarded (restrictedNumbers q w) (noBound l) done in
-    unless (firstFault ((8, wrongWidth w) ∷ (11, shortDiagram q w l || shortPlan q l) ∷ [])) (noBound l) last
+    unless (restrictedFault q w l) (noBound l) last
 
 -- from a file
 abbrev pub restrictedCall : List ℕ → ℕ → Lent → Done Bound
@@ -159,15 +175,23 @@ restrictedCall f w l = opened (readOf f) (noBound l) (λ q. restrictedOf q w l)
 abbrev pub noCount : Lent → ℕ → Done Count
 noCount l k = record { answer = record { number = k; count = 0; more = false }; lent = l }
 
--- refusals 8, 10, 11, 9
-abbrev pub pageOn : Campaign → ℕ → ℕ → ℤ → List ℕ → Lent → Done Count
-pageOn q w n c s l =
+-- as many plans as fit whole
+abbrev pub pageDone : Campaign → ℕ → ℕ → ℤ → List ℕ → Lent → Done Count
+pageDone q w n c s l =
     let z = length (l .plan) in
     let g = page q c (z / slots q) s in
-    let done : Done Count =
-    record { answer = record { number = 0; count = length (g .written); more = g .more }; lent = holding q w (relaxedArcs q w n c) l (pageBytes z g) } in
+    record { answer = record { number = 0; count = length (g .written); more = g .more }; lent = holding q w (relaxedArcs q w n c) l (pageBytes z g) }
+
+-- refusals 8, 10, 11
+abbrev pub pageFault : Campaign → ℕ → ℕ → ℤ → List ℕ → Lent → ℕ
+pageFault q w n c s l = firstFault ((8, wrongNumbers w n c) ∷ (10, wrongStart q s) ∷ (11, shortDiagram q w l || shortPlan q l) ∷ [])
+
+-- then 9
+abbrev pub pageOn : Campaign → ℕ → ℕ → ℤ → List ℕ → Lent → Done Count
+pageOn q w n c s l =
+    let done = pageDone q w n c s l in
     let last = guarded (relaxedNumbers q w n c) (noCount l) done in
-    unless (firstFault ((8, wrongNumbers w n c) ∷ (10, wrongStart q s) ∷ (11, shortDiagram q w l || shortPlan q l) ∷ [])) (noCount l) last
+    unless (pageFault q w n c s l) (noCount l) last
 
 -- from a file
 abbrev pub pageCall : List ℕ → ℕ → ℕ → ℤ → List ℕ → Lent → Done Count
