@@ -94,7 +94,7 @@ module _ (o : Rank) (q : Campaign) where
   layer-allowed f z i s ss ns =
       on-layer (OfSet (q .steps) i s) (map (map f) (map (arrivals o q i s ss) ns)) (λ j v k e. arc-at o q i s ss f z ns j v k e .1 .allow)
 
-  pub layers-allowed : (b : Builder) (w i : ℕ) (ns : List Node) (ss : List ℕ) → OnArcs (OfSet (q .steps)) i ss (map (λ l. l .arcs) (layers b o q w i ns ss))
+  layers-allowed : (b : Builder) (w i : ℕ) (ns : List Node) (ss : List ℕ) → OnArcs (OfSet (q .steps)) i ss (map (λ l. l .arcs) (layers b o q w i ns ss))
   layers-allowed b w i ns [] = tt
   layers-allowed b w i ns (s ∷ []) = (layer-allowed sinkByte refl i s [] ns, tt)
   layers-allowed b w i ns (s ∷ s′ ∷ ss) = (layer-allowed (arcByte b w _) refl i s (s′ ∷ ss) ns, layers-allowed b w (suc i) _ (s′ ∷ ss))

@@ -79,7 +79,7 @@ source-absent q a = (λ e. up (sourceUp q a) refl e, λ e. down (bound q a) refl
 pub primal-bound : (q : Campaign) (w : ℕ) → primal q w ≡ bound q (restrictedArcs q w)
 primal-bound q w = sym (bound-cheapest q (restrictedArcs q w) (restricted-allowed q w))
 
--- "the cost of the plan shown, which is lawful, a cheapest path, and the first of these in dictionary order"
+-- it is the cost of the plan shown, which is lawful, a cheapest path, and the first of these in dictionary order
 pub record Shown (q : Campaign) (w : ℕ) (b : List ℕ) : Type 0 where
   pub costs : primal q w ≡ some (cost q b)
   pub keeps : lawful q b ≡ true
@@ -116,7 +116,7 @@ both-ways false false f g = refl
 paths-lawful : (q : Campaign) (a : Arcs) → ((p : List ℕ) → isPath a p ≡ true → lawful q p ≡ true) → ((p : List ℕ) → lawful q p ≡ true → isPath a p ≡ true) → paths q a ≡ lawfuls q
 paths-lawful q a f g = keep-agree (isPath a) (lawful q) (plans (q .steps) (q .sets)) (λ p i. both-ways (isPath a p) (lawful q p) (f p) (g p))
 
--- "exact and every lawful plan within the ceiling: dual, primal and the least lawful cost are one number"
+-- exact, and every lawful plan within the ceiling: dual, primal and the least lawful cost are one number
 pub exact-bounds : (q : Campaign) (w n : ℕ) (c : ℤ) → 0 < w → 0 < slots q → isExact relaxed q w ≡ true → ((p : List ℕ) → lawful q p ≡ true → cost q p ≤ℤ c)
     → (dual q w n c ≡ least q) × (primal q w ≡ least q)
 exact-bounds q w n c hw s e h =
@@ -128,7 +128,7 @@ exact-bounds q w n c hw s e h =
       ap cheap (paths-lawful q b (λ p. restricted-lawful q w p s) swept),
     )
 
--- "whenever dual and primal are equal and at most the ceiling, the plan shown is a cheapest lawful plan"
+-- dual and primal equal and at most the ceiling: the plan shown is a cheapest lawful plan
 pub equal-bounds : (q : Campaign) (w n : ℕ) (c z : ℤ) → 0 < w → 0 < slots q → dual q w n c ≡ some z → primal q w ≡ some z → z ≤ℤ c
     → (b : List ℕ) → shown q w ≡ some b → (lawful q b ≡ true) × ((p : List ℕ) → lawful q p ≡ true → cost q b ≤ℤ cost q p)
 equal-bounds q w n c z hw s d e k b f =

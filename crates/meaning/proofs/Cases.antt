@@ -238,7 +238,7 @@ pub leaned-hold : holds leaned ≡ true
 leaned-hold = refl
 
 -- ---- what may not be claimed: equal bounds above the ceiling, and a cheaper lawful plan
--- "sets {0,1} {0,1,3} {0,1,3} {0,1}, weights −1 −2 2 0, sum rule −2 −2 3 1 within 1..4, width 1, 2 rounds, ceiling −3"
+-- sets {0,1} {0,1,3} {0,1,3} {0,1}, weights −1 −2 2 0, sum rule −2 −2 3 1 within 1..4; width 1, 2 rounds, ceiling −3
 abbrev D : Campaign
 D = campaign (record {
   sets = 3 ∷ 11 ∷ 11 ∷ 3 ∷ [];

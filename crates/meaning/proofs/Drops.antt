@@ -50,7 +50,7 @@ tested-fewer e q i ds us (l ∷ ls) = ((λ j v k h. layer-left e q i (getD us 1 
 pub drops-fewer : (e : Test) (q : Campaign) (a : Arcs) → Fewer (drops e q a) a
 drops-fewer e q a = tested-fewer e q 0 (begins q ∷ []) (ups q 0 a) a
 
-pub rounds-fewer : (c : ℤ) (q : Campaign) (n : ℕ) (a : Arcs) → Fewer (rounds c q n a) a
+rounds-fewer : (c : ℤ) (q : Campaign) (n : ℕ) (a : Arcs) → Fewer (rounds c q n a) a
 rounds-fewer c q zero a = fewer-refl a
 rounds-fewer c q (suc n) a =
     let b = drops (within c) q a in

@@ -67,7 +67,7 @@ exact-lawful q w n c p s e h =
     let a = built relaxed q w in
     built-obeys q w p s e (fewer-walks (relaxedArcs q w n c) a (filtered-fewer c q n a) 0 p h)
 
--- ---- "each arc lies on a lawful plan within the ceiling"
+-- ---- "each remaining arc lies on a lawful plan that costs at most the ceiling"
 pub record Earned (q : Campaign) (w n : ℕ) (c : ℤ) (i j v : ℕ) : Type 0 where
   pub plan : List ℕ
   pub keeps : lawful q plan ≡ true

@@ -108,7 +108,7 @@ module _ (q : Campaign) (i j : ℕ) where
       meet-r (downNode q i j d 0 bs) (downAt q i j ds l) _ _ (down-at ds l k v t c e h)
 
   -- at place j of the next layer, which has n nodes
-  pub down-next : (n : ℕ) (ds : List Numbers) (l : List (List ℕ)) (k v : ℕ) (t : State) (c : ℤ) → j < n → getD (getD l k []) v 0 ≡ suc j → Cover (getD ds k none) t c
+  down-next : (n : ℕ) (ds : List Numbers) (l : List (List ℕ)) (k v : ℕ) (t : State) (c : ℤ) → j < n → getD (getD l k []) v 0 ≡ suc j → Cover (getD ds k none) t c
       → Cover (getD (map (λ k. downAt q i k ds l) (from 0 n)) j none) (child (q .rules) i v t) (c +ℤ q .price i v)
   down-next n ds l k v t c b e h =
       let at : ℕ → Numbers = λ k. downAt q i k ds l in
@@ -117,12 +117,12 @@ module _ (q : Campaign) (i j : ℕ) where
 
 -- ---- what stands at a place of all arcs
 module _ {A : Type 0} where
-  pub step-at : (f : ℕ → ℕ → A) (bs : List ℕ) (v₀ v : ℕ) (d : A) → v < length bs → getD (eachStep f v₀ bs) v d ≡ f (v₀ + v) (getD bs v 0)
+  step-at : (f : ℕ → ℕ → A) (bs : List ℕ) (v₀ v : ℕ) (d : A) → v < length bs → getD (eachStep f v₀ bs) v d ≡ f (v₀ + v) (getD bs v 0)
   step-at f [] v₀ v d h = absurd (omega arith)
   step-at f (b ∷ bs) v₀ zero d h = let o : v₀ + 0 ≡ v₀ = omega arith in rw o
   step-at f (b ∷ bs) v₀ (suc v) d h = let o : v₀ + suc v ≡ suc v₀ + v = omega arith in rw o (step-at f bs (suc v₀) v d (omega arith))
 
-  pub parent-at : (f : Numbers → ℕ → ℕ → A) (ds : List Numbers) (l : List (List ℕ)) (k : ℕ) → k < length ds
+  parent-at : (f : Numbers → ℕ → ℕ → A) (ds : List Numbers) (l : List (List ℕ)) (k : ℕ) → k < length ds
       → getD (eachParent f ds l) k [] ≡ eachStep (f (getD ds k none)) 0 (getD l k [])
   parent-at f ds [] k h = refl
   parent-at f [] (bs ∷ l) k h = absurd (omega arith)
@@ -158,7 +158,7 @@ pub stays-affords : (c : ℤ) (q : Campaign) (d u : State × ℤ) → stays (wit
 stays-affords c q d u h = let f : affords c d u ≡ true = and-r (mayKeepAll (q .rules) (d .0) (u .0)) (affords c d u) h in omega zarith
 
 -- from the node at place k of layer i, whose down numbers cover the way so far
-pub tested : (e : Test) (q : Campaign) (i : ℕ) (a : Arcs) (ds : List Numbers) (k : ℕ) (p : List ℕ) (t : State) (c : ℤ)
+tested : (e : Test) (q : Campaign) (i : ℕ) (a : Arcs) (ds : List Numbers) (k : ℕ) (p : List ℕ) (t : State) (c : ℤ)
     → Cover (getD ds k none) t c → Passes e q i t c p → walks a k p ≡ true → walks (eachSlot (testArc e q) i (downs q i ds a) (ups q i a) a) k p ≡ true
 tested e q i [] ds k p t c h o w = w
 tested e q i (l ∷ ls) ds k [] t c h o w = absurd (true≢false (sym w))
@@ -179,12 +179,12 @@ source-covers q = (wider-refl (starts (q .rules)), omega zarith)
 pub dropped : (e : Test) (q : Campaign) (a : Arcs) (p : List ℕ) → Passes e q 0 (starts (q .rules)) (pos 0) p → isPath a p ≡ true → isPath (drops e q a) p ≡ true
 dropped e q a p o w = tested e q 0 a (begins q ∷ []) 0 p (starts (q .rules)) (pos 0) (source-covers q) o w
 
-pub rounds-keep : (c : ℤ) (q : Campaign) (n : ℕ) (a : Arcs) (p : List ℕ) → Passes (within c) q 0 (starts (q .rules)) (pos 0) p → isPath a p ≡ true → isPath (rounds c q n a) p ≡ true
+rounds-keep : (c : ℤ) (q : Campaign) (n : ℕ) (a : Arcs) (p : List ℕ) → Passes (within c) q 0 (starts (q .rules)) (pos 0) p → isPath a p ≡ true → isPath (rounds c q n a) p ≡ true
 rounds-keep c q zero a p o w = w
 rounds-keep c q (suc n) a p o w = rounds-keep c q n (drops (within c) q a) p o (dropped (within c) q a p o w)
 
 -- a lawful plan within the ceiling passes
-pub lawful-passes : (q : Campaign) (c : ℤ) (p : List ℕ) → lawful q p ≡ true → cost q p ≤ℤ c → Passes (within c) q 0 (starts (q .rules)) (pos 0) p
+lawful-passes : (q : Campaign) (c : ℤ) (p : List ℕ) → lawful q p ≡ true → cost q p ≤ℤ c → Passes (within c) q 0 (starts (q .rules)) (pos 0) p
 lawful-passes q c p e h =
     (source-fits (q .rules) p (and-r (allowed (q .steps) (q .sets) p) (every (keepsRule p) (q .rules)) e), omega (zarith, sum (pos 0) (prices q 0 p)))
 

@@ -22,7 +22,7 @@ step-below k s v e = ltb-true v k (and-l (ltb v k) (bit s v) e)
 -- ---- the arcs of a layer
 module _ (o : Rank) (q : Campaign) (i s : ℕ) (ss : List ℕ) where
   -- the byte of step v of the node at place k, whatever function f makes bytes of arrivals
-  pub byte-at : (f : Option Node → ℕ) (ns : List Node) (k v : ℕ) → k < length ns → v < q .steps
+  byte-at : (f : Option Node → ℕ) (ns : List Node) (k v : ℕ) → k < length ns → v < q .steps
       → getD (getD (map (map f) (map (arrivals o q i s ss) ns)) k []) v 0 ≡ f (arrival o q i s ss (getD ns k absent) v)
   byte-at f ns k v h l =
       let one = arrival o q i s ss (getD ns k absent) in

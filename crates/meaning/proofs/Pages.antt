@@ -123,7 +123,7 @@ module _ (q : Campaign) (c : ℤ) where
           (ap (λ (m : List (List ℕ)). take k l ++ m) (both .0 ∙ next-listed s k) ∙ take-append-drop k l, both .1)
       go false e r = (append-nil (take k l) ∙ take-all k l (ltb-false k (length l) e), refl)
 
--- "their concatenation is the whole list of lawful plans within the ceiling": from the beginning
+-- from the beginning they list all lawful plans within the ceiling
 pub pages-all : (q : Campaign) (c : ℤ) (rooms : List ℕ) → 0 < slots q → every (ltb 0) rooms ≡ true → 0 < length rooms → length (lawfuls q) ≤ length rooms
     → (drawn rooms q c [] ≡ keep (λ p. leZ (cost q p) c) (lawfuls q)) × (ending rooms q c [] ≡ true)
 pages-all q c rooms s f n h =

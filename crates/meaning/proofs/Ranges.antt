@@ -70,12 +70,6 @@ guarded b q w n c e =
     (each-append (Within limit) (buildNumbers b q w) (roundNumbers c q n (built b q w)) (build-within q limit b w room)
     (rounds-within q (greatest q) limit c n (q .sets) (built b q w) fits room))
 
-pub guarded-relaxed : (q : Campaign) (w n : ℕ) (c : ℤ) → guard q ≡ false → leaves (relaxedNumbers q w n c) ≡ false
-guarded-relaxed q w n c e = guarded relaxed q w n c e
-
-pub guarded-restricted : (q : Campaign) (w : ℕ) → guard q ≡ false → leaves (restrictedNumbers q w) ≡ false
-guarded-restricted q w e = guarded restricted q w 0 (pos 0) e
-
 -- ---- a rule whose shares at n slots are at most so large has room
 record HasRoom (n : ℕ) (r : Rule) : Type 0 where
   most : ℕ
@@ -170,4 +164,4 @@ in-range-unguarded p e = format-unguarded version1 version1-room p e
 
 -- "a running number .. would leave ±2,000,000": of a problem in range none does
 pub ranges : (p : Problem) (w n : ℕ) (c : ℤ) → inRange version1 p ≡ true → (leaves (relaxedNumbers (campaign p) w n c) ≡ false) × (leaves (restrictedNumbers (campaign p) w) ≡ false)
-ranges p w n c e = let g = in-range-unguarded p e in (guarded-relaxed (campaign p) w n c g, guarded-restricted (campaign p) w g)
+ranges p w n c e = let g = in-range-unguarded p e in (guarded relaxed (campaign p) w n c g, guarded restricted (campaign p) w 0 (pos 0) g)
