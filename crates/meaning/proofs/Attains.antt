@@ -1,11 +1,11 @@
 -- Is a bound the cost of a path, and does each arc that a round leaves lie on a path within the ceiling?
 -- The least of some numbers is one of them, so that the way to a number can be followed back, arc by arc. The arcs are any.
-use mathlib.Core.Path.{_≡_, refl, sym, _∙_, ap}
+use mathlib.Core.Path.{_≡_, refl, sym, _∙_, ap, subst}
 use mathlib.Core.List.{List, [], _∷_, map}
 use mathlib.Core.Bool.{Bool, true, false, cond, true≢false}
 use mathlib.Core.Option.{none, some, Option·map, Option·none-ne-some, Option·some-injective}
 use mathlib.Core.Logic.{_⊎_, inl, inr}
-use Prim.Native.Nat.{ℕ, zero, suc, _+_}
+use Prim.Native.Nat.{ℕ, zero, suc, _+_, _-_, _<_}
 use native.Mathlib.Omega.{arith}
 use native.Mathlib.Nat.{zero-add}
 use lib.Dec.{eqb}
@@ -18,10 +18,11 @@ use Rattle.laws.specs.Lists.{from, lastOr}
 use Rattle.laws.proofs.Lists.{and-both}
 use Rattle.meaning.specs.Plan.{Campaign, summed, cost}
 use Rattle.meaning.specs.Diagram.{State, Arcs}
-use Rattle.meaning.specs.Filter.{Numbers, meet, over, upArc, upNode, ups, upNumbers, downNode, downAt, nodeCount, downs, begins, eachSlot, within, stays, testArc, drops}
+use Rattle.meaning.specs.Filter.{Numbers, meet, over, upArc, upNode, ups, upNumbers, downNode, downAt, nodeCount, downs, begins, eachSlot, Test, onPath, within, stays, testArc, drops, swept}
 use Rattle.meaning.specs.Bound.{walks, isPath, arcAt, passes, bound}
-use Rattle.meaning.proofs.Drops.{layer-left}
-use Rattle.meaning.proofs.Keeps.{stays-affords}
+use Rattle.meaning.proofs.Walks.{fewer-passes, passes-arc}
+use Rattle.meaning.proofs.Drops.{layer-left, drops-fewer}
+use Rattle.meaning.proofs.Keeps.{stays-affords, dropped}
 
 -- a node has numbers, and its cost is z
 abbrev CostIs : Numbers → ℤ → Type 0
@@ -98,24 +99,24 @@ up-rest q i (l ∷ ls) k {z} h =
 -- ---- down: a cost down is that of a way from the layer above
 module _ (q : Campaign) (i k : ℕ) where
   -- of a parent's bytes, from step v₀ on, an arc to place k that has the cost
-  record In (d : Numbers) (bs : List ℕ) (v₀ : ℕ) (z : ℤ) : Type 0 where
+  record Into (d : Numbers) (bs : List ℕ) (v₀ : ℕ) (z : ℤ) : Type 0 where
     step : ℕ
     byte : getD bs step 0 ≡ suc k
     plus : Plus d (q .price i (v₀ + step)) z
 
-  down-in : (d : Numbers) (bs : List ℕ) (v₀ : ℕ) {z : ℤ} → Costs (downNode q i k d v₀ bs) z → In d bs v₀ z
-  down-in d [] v₀ h = absurd (h .is)
-  down-in d (b ∷ bs) v₀ {z} h = go (eqb b (suc k)) refl (λ k. down-in d bs (suc v₀) k) h
+  down-into : (d : Numbers) (bs : List ℕ) (v₀ : ℕ) {z : ℤ} → Costs (downNode q i k d v₀ bs) z → Into d bs v₀ z
+  down-into d [] v₀ h = absurd (h .is)
+  down-into d (b ∷ bs) v₀ {z} h = go (eqb b (suc k)) refl (λ k. down-into d bs (suc v₀) k) h
     where
-      later : In d bs (suc v₀) z → In d (b ∷ bs) v₀ z
+      later : Into d bs (suc v₀) z → Into d (b ∷ bs) v₀ z
       later x = let o : v₀ + suc (x .step) ≡ suc v₀ + x .step = omega arith in record { step = suc (x .step); byte = x .byte; plus = rw o (x .plus) }
 
-      one : b ≡ suc k → (Costs (downNode q i k d (suc v₀) bs) z → In d bs (suc v₀) z) → Costs (over q i v₀ d) z ⊎ Costs (downNode q i k d (suc v₀) bs) z → In d (b ∷ bs) v₀ z
+      one : b ≡ suc k → (Costs (downNode q i k d (suc v₀) bs) z → Into d bs (suc v₀) z) → Costs (over q i v₀ d) z ⊎ Costs (downNode q i k d (suc v₀) bs) z → Into d (b ∷ bs) v₀ z
       one e r (inl c) = let o : v₀ + 0 ≡ v₀ = omega arith in record { step = 0; byte = e; plus = rw o (over-plus q i v₀ d c) }
       one e r (inr c) = later (r c)
 
-      go : (t : Bool) → eqb b (suc k) ≡ t → (Costs (downNode q i k d (suc v₀) bs) z → In d bs (suc v₀) z)
-          → Costs (cond t (meet (over q i v₀ d) (downNode q i k d (suc v₀) bs)) (downNode q i k d (suc v₀) bs)) z → In d (b ∷ bs) v₀ z
+      go : (t : Bool) → eqb b (suc k) ≡ t → (Costs (downNode q i k d (suc v₀) bs) z → Into d bs (suc v₀) z)
+          → Costs (cond t (meet (over q i v₀ d) (downNode q i k d (suc v₀) bs)) (downNode q i k d (suc v₀) bs)) z → Into d (b ∷ bs) v₀ z
       go true e r c = one (eqb-true b (suc k) e) r (meet-one (over q i v₀ d) (downNode q i k d (suc v₀) bs) c)
       go false e r c = later (r c)
 
@@ -132,7 +133,7 @@ module _ (q : Campaign) (i k : ℕ) where
   down-parent (d ∷ ds) (bs ∷ l) {z} h = go (λ c. down-parent ds l c) (meet-one (downNode q i k d 0 bs) (downAt q i k ds l) h)
     where
       go : (Costs (downAt q i k ds l) z → Parent ds l z) → Costs (downNode q i k d 0 bs) z ⊎ Costs (downAt q i k ds l) z → Parent (d ∷ ds) (bs ∷ l) z
-      go r (inl c) = let x = down-in d bs 0 c in record { place = 0; step = x .step; byte = x .byte; plus = rw zero-add at (x .plus) }
+      go r (inl c) = let x = down-into d bs 0 c in record { place = 0; step = x .step; byte = x .byte; plus = rw zero-add at (x .plus) }
       go r (inr c) = let x = r c in record { place = suc (x .place); step = x .step; byte = x .byte; plus = x .plus }
 
 -- the number at a place is that place's
@@ -188,44 +189,50 @@ sink-way q i ds (l ∷ ls) h =
     let y = longer q i ds l ls (x .way) in
     record { way = y .way; costs = y .same ∙ x .costs }
 
--- ---- an arc that a round leaves
-record Cheap (d u : Numbers) (c : ℤ) : Type 0 where
+-- ---- an arc that a test leaves
+-- what a test says of a whole cost
+abbrev pub Affords : Test → ℤ → Type 0
+Affords onPath z = Unit {0}
+Affords (within c) z = z ≤ℤ c
+
+record Both (e : Test) (d u : Numbers) : Type 0 where
   down : ℤ
   up : ℤ
   downs : Costs d down
   ups : Costs u up
-  sums : (down +ℤ up) ≤ℤ c
+  sums : Affords e (down +ℤ up)
 
-stays-cheap : (c : ℤ) (q : Campaign) (d u : Numbers) → stays (within c) q d u ≡ true → Cheap d u c
-stays-cheap c q none u h = absurd (true≢false (sym h))
-stays-cheap c q (some d) none h = absurd (true≢false (sym h))
-stays-cheap c q (some d) (some u) h =
+stays-both : (e : Test) (q : Campaign) (d u : Numbers) → stays e q d u ≡ true → Both e d u
+stays-both e q none u h = absurd (true≢false (sym h))
+stays-both e q (some d) none h = absurd (true≢false (sym h))
+stays-both onPath q (some d) (some u) h = record { down = d .1; up = u .1; downs = record { is = refl }; ups = record { is = refl }; sums = tt }
+stays-both (within c) q (some d) (some u) h =
     record { down = d .1; up = u .1; downs = record { is = refl }; ups = record { is = refl }; sums = stays-affords c q d u h }
 
--- a way that passes an arc and costs at most c
-record Passing (q : Campaign) (i : ℕ) (ds : List Numbers) (a : Arcs) (t j v : ℕ) (c : ℤ) : Type 0 where
+-- a way that takes an arc, with a cost that the test affords
+record Taking (e : Test) (q : Campaign) (i : ℕ) (ds : List Numbers) (a : Arcs) (t j v : ℕ) : Type 0 where
   way : Way q i ds a
   on : passes t j v a (way .place) (way .steps) ≡ true
-  cheap : whole way ≤ℤ c
+  cheap : Affords e (whole way)
 
-arc-way : (q : Campaign) (c : ℤ) (i : ℕ) (ds : List Numbers) (a : Arcs) (t j v k : ℕ)
-    → arcAt (eachSlot (testArc (within c) q) i (downs q i ds a) (ups q i a) a) t j v ≡ suc k → Passing q i ds a t j v c
-arc-way q c i ds [] t j v k h = absurd (omega arith)
-arc-way q c i ds (l ∷ ls) zero j v k h =
+arc-way : (e : Test) (q : Campaign) (i : ℕ) (ds : List Numbers) (a : Arcs) (t j v k : ℕ)
+    → arcAt (eachSlot (testArc e q) i (downs q i ds a) (ups q i a) a) t j v ≡ suc k → Taking e q i ds a t j v
+arc-way e q i ds [] t j v k h = absurd (omega arith)
+arc-way e q i ds (l ∷ ls) zero j v k h =
     let us = getD (ups q (suc i) ls) 0 [] in
-    let arc = layer-left (within c) q i us ds l j v k h in
-    let cheap = stays-cheap c q (over q i v (getD ds j none)) (getD us k none) (arc .passed) in
-    let plus = over-plus q i v (getD ds j none) (cheap .downs) in
-    let rest = up-rest q (suc i) ls k (cheap .ups) in
+    let arc = layer-left e q i us ds l j v k h in
+    let both = stays-both e q (over q i v (getD ds j none)) (getD us k none) (arc .passed) in
+    let plus = over-plus q i v (getD ds j none) (both .downs) in
+    let rest = up-rest q (suc i) ls k (both .ups) in
     let y = q .price i v in
     let t = summed (q .price) (suc i) (rest .steps) in
     record {
       way = record { place = j; steps = v ∷ rest .steps; begun = plus .cost; has = plus .has; walk = rw (arc .was) (rest .walk) };
       on = and-both (eqb j j) (eqb v v) (eq-eqb j j refl) (eq-eqb v v refl);
-      cheap = rw (← assoc (plus .cost) y t, plus .adds, rest .sums) (cheap .sums);
+      cheap = rw (← assoc (plus .cost) y t, plus .adds, rest .sums) (both .sums);
     }
-arc-way q c i ds (l ∷ ls) (suc t) j v k h =
-    let x = arc-way q c (suc i) (below q i ds l ls) ls t j v k h in
+arc-way e q i ds (l ∷ ls) (suc t) j v k h =
+    let x = arc-way e q (suc i) (below q i ds l ls) ls t j v k h in
     let y = longer q i ds l ls (x .way) in
     record { way = y .way; on = y .also t j v ∙ x .on; cheap = rw (y .same) (x .cheap) }
 
@@ -239,12 +246,12 @@ source-way q a w = go (w .place) (w .has) (w .walk)
     go (suc k) h e = absurd (h .is)
 
 -- a bound is the cost of a path
-pub record Path (q : Campaign) (a : Arcs) (z : ℤ) : Type 0 where
+pub record PathOf (q : Campaign) (a : Arcs) (z : ℤ) : Type 0 where
   pub steps : List ℕ
   pub is : isPath a steps ≡ true
   pub costs : cost q steps ≡ z
 
-pub bound-attained : (q : Campaign) (a : Arcs) {z : ℤ} → bound q a ≡ some z → Path q a z
+pub bound-attained : (q : Campaign) (a : Arcs) {z : ℤ} → bound q a ≡ some z → PathOf q a z
 bound-attained q a {z} e =
     let x = sink-way q 0 (begins q ∷ []) a (has (getD (lastOr [] (downs q 0 (begins q ∷ []) a)) 0 none) e) in
     let s = source-way q a (x .way) in
@@ -258,21 +265,39 @@ bound-attained q a {z} e =
 abbrev pub sourceUp : Campaign → Arcs → Numbers
 sourceUp q a = getD (getD (upNumbers q a) 0 []) 0 none
 
-pub source-path : (q : Campaign) (a : Arcs) {u : State × ℤ} → sourceUp q a ≡ some u → Path q a (u .1)
+pub source-path : (q : Campaign) (a : Arcs) {u : State × ℤ} → sourceUp q a ≡ some u → PathOf q a (u .1)
 source-path q a {u} e =
     let has : Costs (sourceUp q a) (u .1) = rw e (record { is = refl }) in
     let x = up-rest q 0 a 0 has in
     record { steps = x .steps; is = x .walk; costs = x .sums }
 
--- an arc that a round leaves lies on a path, before the round, that costs at most the ceiling
-pub record Used (q : Campaign) (a : Arcs) (i j v : ℕ) (c : ℤ) : Type 0 where
+-- an arc that a test leaves lies on a path, before anything fell; of a round its cost is at most the ceiling
+pub record Used (e : Test) (q : Campaign) (a : Arcs) (i j v : ℕ) : Type 0 where
   pub steps : List ℕ
   pub is : isPath a steps ≡ true
   pub on : passes i j v a 0 steps ≡ true
-  pub cheap : cost q steps ≤ℤ c
+  pub cheap : Affords e (cost q steps)
 
-pub arc-used : (q : Campaign) (c : ℤ) (a : Arcs) (i j v k : ℕ) → arcAt (drops (within c) q a) i j v ≡ suc k → Used q a i j v c
-arc-used q c a i j v k e =
-    let x = arc-way q c 0 (begins q ∷ []) a i j v k e in
+pub arc-used : (e : Test) (q : Campaign) (a : Arcs) (i j v k : ℕ) → arcAt (drops e q a) i j v ≡ suc k → Used e q a i j v
+arc-used e q a i j v k h =
+    let x = arc-way e q 0 (begins q ∷ []) a i j v k h in
     let s = source-way q a (x .way) in
-    record { steps = x .way .steps; is = s .0; on = rw (s .1) at (x .on); cheap = rw (s .2) at (x .cheap) }
+    record { steps = x .way .steps; is = s .0; on = rw (s .1) at (x .on); cheap = subst (Affords e) (s .2) (x .cheap) }
+
+-- ---- "drops every arc on no path from source to sink", and no other: an arc that the sweep leaves lies on a path that it leaves
+pub record OnPath (a : Arcs) (i j v : ℕ) : Type 0 where
+  pub steps : List ℕ
+  pub is : isPath a steps ≡ true
+  pub on : passes i j v a 0 steps ≡ true
+
+pub swept-arc : (q : Campaign) (a : Arcs) (i j v : ℕ) → 0 < arcAt (swept q a) i j v → OnPath (swept q a) i j v
+swept-arc q a i j v h =
+    let k = arcAt (swept q a) i j v - 1 in
+    let x = arc-used onPath q a i j v k (omega arith) in
+    let path = dropped onPath q a (x .steps) tt (x .is) in
+    record { steps = x .steps; is = path; on = fewer-passes (swept q a) a (drops-fewer onPath q a) i j v 0 (x .steps) path (x .on) }
+
+pub path-arc : (q : Campaign) (a : Arcs) (i j v : ℕ) → OnPath a i j v → 0 < arcAt (swept q a) i j v
+path-arc q a i j v x =
+    let path = dropped onPath q a (x .steps) tt (x .is) in
+    passes-arc i j v (swept q a) 0 (x .steps) path (fewer-passes (swept q a) a (drops-fewer onPath q a) i j v 0 (x .steps) path (x .on))

@@ -19,7 +19,7 @@ use Rattle.meaning.proofs.Loses.{lawful-walks}
 use Rattle.meaning.proofs.Keeps.{Cover, prices, ups-cover, dropped, kept, AtMost, bound-at-most, dual-at-most}
 use Rattle.meaning.proofs.Restricted.{restricted-lawful}
 use Rattle.meaning.proofs.Allowed.{Allowed, relaxed-allowed, restricted-allowed, path-allowed}
-use Rattle.meaning.proofs.Attains.{Path, bound-attained, sourceUp, source-path}
+use Rattle.meaning.proofs.Attains.{PathOf, bound-attained, sourceUp, source-path}
 use Rattle.meaning.proofs.Cheapest.{Cheapest, some-cheapest, cheapest-is}
 use Rattle.meaning.proofs.Exact.{exact-same, exact-lawful}
 use Rattle.meaning.proofs.Order.{plans-ordered, plans-in}
@@ -45,7 +45,7 @@ bound-cheapest q a al = go (bound q a) (cheapest q (paths q a)) refl refl
     at-most : {p : List ℕ} {b : Option ℤ} → bound q a ≡ b → In p ps → AtMost b (cost q p)
     at-most {p} e i = subst (λ (b : Option ℤ). AtMost b (cost q p)) e (bound-at-most q a p (in-kept (isPath a) (plans (q .steps) (q .sets)) i))
 
-    attained : {z : ℤ} (x : Path q a z) → In (x .steps) ps
+    attained : {z : ℤ} (x : PathOf q a z) → In (x .steps) ps
     attained x = in-paths q a (x .steps) (path-allowed q a (x .steps) al (x .is)) (x .is)
 
     best : {b : List ℕ} → cheapest q ps ≡ some b → Cheapest q ps b
@@ -128,11 +128,11 @@ exact-bounds q w n c hw s e h =
       ap cheap (paths-lawful q b (λ p. restricted-lawful q w p s) swept),
     )
 
--- dual and primal equal and at most the ceiling: the plan shown is a cheapest lawful plan
-pub equal-bounds : (q : Campaign) (w n : ℕ) (c z : ℤ) → 0 < w → 0 < slots q → dual q w n c ≡ some z → primal q w ≡ some z → z ≤ℤ c
-    → (b : List ℕ) → shown q w ≡ some b → (lawful q b ≡ true) × ((p : List ℕ) → lawful q p ≡ true → cost q b ≤ℤ cost q p)
-equal-bounds q w n c z hw s d e k b f =
-    let x = plan-shown q w b s f in
+-- dual and primal equal and at most the ceiling, at whatever widths: the plan shown is a cheapest lawful plan
+pub equal-bounds : (q : Campaign) (w v n : ℕ) (c z : ℤ) → 0 < w → 0 < slots q → dual q w n c ≡ some z → primal q v ≡ some z → z ≤ℤ c
+    → (b : List ℕ) → shown q v ≡ some b → (lawful q b ≡ true) × ((p : List ℕ) → lawful q p ≡ true → cost q b ≤ℤ cost q p)
+equal-bounds q w v n c z hw s d e k b f =
+    let x = plan-shown q v b s f in
     let same : cost q b ≡ z = Option·some-injective (cost q b) z (sym (x .costs) ∙ e) in
     (x .keeps, λ p l. go p l same (leZ (cost q p) c) refl)
   where

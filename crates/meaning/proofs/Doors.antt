@@ -19,7 +19,7 @@ use Rattle.meaning.specs.Bound.{dual, primal}
 use Rattle.meaning.specs.Buffers.{arcsNeed, cellsNeed}
 use Rattle.meaning.specs.File.{Got, refused, got, readOf}
 use Rattle.meaning.specs.Running.{leaves, relaxedNumbers, restrictedNumbers}
-use Rattle.meaning.specs.Calls.{Bound, Count, Lent, Done, unless, guarded, opened, wrongWidth, wrongNumbers, wrongStart, shortDiagram, shortPlan, boundOf, noBound, relaxedDone, relaxedFault, relaxedCall, restrictedDone, restrictedFault, restrictedCall, noCount, pageDone, pageFault, pageCall}
+use Rattle.meaning.specs.Calls.{Bound, Count, Lent, Done, unless, guarded, opened, wrongWidth, wrongNumbers, wrongStart, shortDiagram, shortPlan, read, judge, emptyStart, better, boundOf, noBound, relaxedDone, relaxedFault, relaxedCall, restrictedDone, restrictedFault, restrictedCall, noCount, pageDone, pageFault, pageCall}
 use Rattle.meaning.proofs.Ranges.{ranges, within-size, size-within}
 use Rattle.meaning.proofs.Bytes.{isByte}
 use Rattle.meaning.proofs.Files.{accepted-in-range}
@@ -184,6 +184,12 @@ restricted-alone f w l =
 pub page-alone : (f : List ℕ) (w n : ℕ) (c : ℤ) (s : List ℕ) (l : Lent) → Alone countNumber (noCount l) (pageCall f w n c s l)
 page-alone f w n c s l =
     call-alone countNumber (noCount l) (λ k. refl) (readOf f) (λ q. pageFault q w n c s l) (λ q. relaxedNumbers q w n c) (λ q. pageDone q w n c s l) (λ q. refl)
+
+-- ---- a refused file: its number comes before all others, in every operation
+pub file-first : (f : List ℕ) (k : ℕ) → readOf f ≡ refused k → (w n : ℕ) (c : ℤ) (s a b : List ℕ) (l : Lent)
+    → (read f .number ≡ k) × (judge f a ≡ record { number = k; lawful = false; cost = pos 0 }) × (better f a b ≡ emptyStart)
+    × (relaxedCall f w n c l ≡ noBound l k) × (restrictedCall f w l ≡ noBound l k) × (pageCall f w n c s l ≡ noCount l k)
+file-first f k e w n c s a b l = (rw e, rw e, rw e, rw e, rw e, rw e)
 
 -- ---- the operations on an accepted file
 module _ (f : List ℕ) (low : every isByte f ≡ true) (p : Problem) (rest : List ℕ) (e : readOf f ≡ got p rest) where

@@ -1,10 +1,11 @@
 -- What is true of an exact diagram? No state shares a node, so that both builders make the same arcs, and every path is lawful.
 use mathlib.Core.Path.{_≡_, refl, sym, _∙_, ap, subst}
 use mathlib.Core.List.{List, [], _∷_, map}
-use mathlib.Core.Bool.{true}
+use mathlib.Core.Bool.{Bool, true, false, _&&_}
 use mathlib.Core.Option.{Option, none, some}
 use Prim.Native.Nat.{ℕ, zero, suc, min, _-_, _≤_, _<_}
 use native.Mathlib.Omega.{arith}
+use lib.Dec.{leb}
 use lib.ListN.{length}
 use lib.Seq.{take-all}
 use borrow.Author.Tests.{leb-true, lt-ltb, le-leb}
@@ -13,7 +14,7 @@ use lib.Signed.{_≤ℤ_}
 use Rattle.laws.specs.Lists.{every, place, flat}
 use Rattle.laws.proofs.Lists.{and-l, and-r, In, in-made, map-same}
 use Rattle.meaning.specs.Plan.{Campaign, slots, lawful, cost}
-use Rattle.meaning.specs.Diagram.{Node, Rank, has, arrivals, states, relaxed, restricted, nodesOf, placeByte, arcByte, Layer, layers, source, firstAppearance, Arcs, built, narrow, isExact}
+use Rattle.meaning.specs.Diagram.{Node, Rank, has, arrivals, states, Builder, relaxed, restricted, nodesOf, placeByte, arcByte, Layer, layers, source, firstAppearance, Arcs, built, narrow, isExact}
 use Rattle.meaning.specs.Filter.{within, drops, relaxedArcs}
 use Rattle.meaning.specs.Bound.{isPath, arcAt, passes}
 use Rattle.meaning.proofs.Sound.{arrival-found}
@@ -55,6 +56,26 @@ module _ (o : Rank) (q : Campaign) (w : ℕ) where
       ap (λ (a : List (List ℕ)). record { nodes = ns; states = ts; arcs = a } ∷ layers relaxed o q w (suc i) (nodesOf relaxed w ts) (s′ ∷ ss)) (rows-same w os fits)
       ∙ ap (λ (ls : List Layer). record { nodes = ns; states = ts; arcs = map (map (arcByte restricted w ts)) os } ∷ ls) below
 
+  -- at one width both diagrams carry the same word
+  words-same : (i : ℕ) (ns : List Node) (ss : List ℕ) → every (narrow w) (layers relaxed o q w i ns ss) ≡ every (narrow w) (layers restricted o q w i ns ss)
+  words-same i ns [] = refl
+  words-same i ns (s ∷ []) = refl
+  words-same i ns (s ∷ s′ ∷ ss) = go (leb (length ts) w) refl (words-same (suc i) (nodesOf relaxed w ts) (s′ ∷ ss))
+    where
+      ts : List Node
+      ts = states (map (arrivals o q i s (s′ ∷ ss)) ns)
+
+      word : Builder → List Node → Bool
+      word b ns = every (narrow w) (layers b o q w (suc i) ns (s′ ∷ ss))
+
+      go : (t : Bool) → leb (length ts) w ≡ t → word relaxed (nodesOf relaxed w ts) ≡ word restricted (nodesOf relaxed w ts)
+          → (t && word relaxed (nodesOf relaxed w ts)) ≡ (t && word restricted (nodesOf restricted w ts))
+      go true e r = r ∙ ap (word restricted) (nodes-same w ts (leb-true (length ts) w e))
+      go false e r = refl
+
+pub same-word : (q : Campaign) (w : ℕ) → isExact relaxed q w ≡ isExact restricted q w
+same-word q w = words-same firstAppearance q w 0 (source q) (q .sets)
+
 pub exact-same : (q : Campaign) (w : ℕ) → isExact relaxed q w ≡ true → built relaxed q w ≡ built restricted q w
 exact-same q w e = ap (map (λ l. l .arcs)) (layers-same firstAppearance q w 0 (source q) (q .sets) e)
 
@@ -83,7 +104,7 @@ exact-arc q w (suc n) c i j v hw hn s e h =
     let once = drops (within c) q a in
     let last = relaxedArcs q w (suc n) c in
     let arc : arcAt last i j v ≡ suc (arcAt last i j v - 1) = omega arith in
-    let used = arc-used q c a i j v (arcAt last i j v - 1) (fewer-arc last once (filtered-fewer c q n once) i j v (arcAt last i j v - 1) arc) in
+    let used = arc-used (within c) q a i j v (arcAt last i j v - 1) (fewer-arc last once (filtered-fewer c q n once) i j v (arcAt last i j v - 1) arc) in
     let obeys = built-obeys q w (used .steps) s e (used .is) in
     let path = kept q w (suc n) c (used .steps) obeys (used .cheap) hw in
     record { plan = used .steps; keeps = obeys; cheap = used .cheap; path = path; on = fewer-passes last a (filtered-fewer c q (suc n) a) i j v 0 (used .steps) path (used .on) }

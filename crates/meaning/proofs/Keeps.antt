@@ -131,20 +131,20 @@ module _ {A : Type 0} where
 
 -- ---- a test keeps a path that it has no reason to drop
 -- what a test asks of the way so far, with totals t and cost c, and the rest p of the plan from slot i on
-abbrev pub Passes : Test → Campaign → ℕ → State → ℤ → List ℕ → Type 0
-Passes onPath q i t c p = Unit {0}
-Passes (within m) q i t c p = Fits (q .rules) i t p × ((c +ℤ prices q i p) ≤ℤ m)
+abbrev pub Asked : Test → Campaign → ℕ → State → ℤ → List ℕ → Type 0
+Asked onPath q i t c p = Unit {0}
+Asked (within m) q i t c p = Fits (q .rules) i t p × ((c +ℤ prices q i p) ≤ℤ m)
 
-passes-on : (e : Test) (q : Campaign) (i v : ℕ) (t : State) (c : ℤ) (p : List ℕ) → Passes e q i t c (v ∷ p) → Passes e q (suc i) (child (q .rules) i v t) (c +ℤ q .price i v) p
-passes-on onPath q i v t c p h = tt
-passes-on (within m) q i v t c p h =
+asked-on : (e : Test) (q : Campaign) (i v : ℕ) (t : State) (c : ℤ) (p : List ℕ) → Asked e q i t c (v ∷ p) → Asked e q (suc i) (child (q .rules) i v t) (c +ℤ q .price i v) p
+asked-on onPath q i v t c p h = tt
+asked-on (within m) q i v t c p h =
     let y = q .price i v in
     let z = prices q (suc i) p in
     (rw (child-fits (q .rules) i v t p) (h .0), omega (zarith, h .1, sum y z, sum c (y +ℤ z), sum c y, sum (c +ℤ y) z))
 
 -- d are the parent's numbers over the arc, u the child's
 arc-stays : (e : Test) (q : Campaign) (i : ℕ) (d u : Numbers) (t : State) (c : ℤ) (p : List ℕ) → Cover d t c → Cover u (totals (q .rules) i p) (prices q i p)
-    → Passes e q i t c p → stays e q d u ≡ true
+    → Asked e q i t c p → stays e q d u ≡ true
 arc-stays e q i none u t c p h k o = absurd h
 arc-stays e q i (some d) none t c p h k o = absurd k
 arc-stays onPath q i (some d) (some u) t c p h k o = refl
@@ -159,14 +159,14 @@ stays-affords c q d u h = let f : affords c d u ≡ true = and-r (mayKeepAll (q 
 
 -- from the node at place k of layer i, whose down numbers cover the way so far
 tested : (e : Test) (q : Campaign) (i : ℕ) (a : Arcs) (ds : List Numbers) (k : ℕ) (p : List ℕ) (t : State) (c : ℤ)
-    → Cover (getD ds k none) t c → Passes e q i t c p → walks a k p ≡ true → walks (eachSlot (testArc e q) i (downs q i ds a) (ups q i a) a) k p ≡ true
+    → Cover (getD ds k none) t c → Asked e q i t c p → walks a k p ≡ true → walks (eachSlot (testArc e q) i (downs q i ds a) (ups q i a) a) k p ≡ true
 tested e q i [] ds k p t c h o w = w
 tested e q i (l ∷ ls) ds k [] t c h o w = absurd (true≢false (sym w))
 tested e q i (l ∷ ls) ds k (v ∷ p) t c h o w =
     let us = getD (ups q (suc i) ls) 0 [] in
     let d = getD ds k none in
     let n = next (λ j. walks ls j p) (getD (getD l k []) v 0) w in
-    let on = passes-on e q i v t c p o in
+    let on = asked-on e q i v t c p o in
     let stay = arc-stays e q (suc i) (over q i v d) (getD us (n .to) none) (child (q .rules) i v t) (c +ℤ q .price i v) p (over-covers q i v d t c h) (ups-cover q (suc i) ls (n .to) p (n .on)) on in
     rw (parent-at (testArc e q i us) ds l k (place-there ds k none (λ e. rw e at h)), step-at (testArc e q i us d) (getD l k []) 0 v 0 (byte-there (getD l k []) v (n .byte)), zero-add, n .byte, stay)
     (tested e q (suc i) ls (map (λ k. downAt q i k ds l) (from 0 (nodeCount ls))) (n .to) p (child (q .rules) i v t) (c +ℤ q .price i v)
@@ -176,22 +176,22 @@ source-covers : (q : Campaign) → Cover (begins q) (starts (q .rules)) (pos 0)
 source-covers q = (wider-refl (starts (q .rules)), omega zarith)
 
 -- from the source
-pub dropped : (e : Test) (q : Campaign) (a : Arcs) (p : List ℕ) → Passes e q 0 (starts (q .rules)) (pos 0) p → isPath a p ≡ true → isPath (drops e q a) p ≡ true
+pub dropped : (e : Test) (q : Campaign) (a : Arcs) (p : List ℕ) → Asked e q 0 (starts (q .rules)) (pos 0) p → isPath a p ≡ true → isPath (drops e q a) p ≡ true
 dropped e q a p o w = tested e q 0 a (begins q ∷ []) 0 p (starts (q .rules)) (pos 0) (source-covers q) o w
 
-rounds-keep : (c : ℤ) (q : Campaign) (n : ℕ) (a : Arcs) (p : List ℕ) → Passes (within c) q 0 (starts (q .rules)) (pos 0) p → isPath a p ≡ true → isPath (rounds c q n a) p ≡ true
+rounds-keep : (c : ℤ) (q : Campaign) (n : ℕ) (a : Arcs) (p : List ℕ) → Asked (within c) q 0 (starts (q .rules)) (pos 0) p → isPath a p ≡ true → isPath (rounds c q n a) p ≡ true
 rounds-keep c q zero a p o w = w
 rounds-keep c q (suc n) a p o w = rounds-keep c q n (drops (within c) q a) p o (dropped (within c) q a p o w)
 
 -- a lawful plan within the ceiling passes
-lawful-passes : (q : Campaign) (c : ℤ) (p : List ℕ) → lawful q p ≡ true → cost q p ≤ℤ c → Passes (within c) q 0 (starts (q .rules)) (pos 0) p
-lawful-passes q c p e h =
+lawful-asked : (q : Campaign) (c : ℤ) (p : List ℕ) → lawful q p ≡ true → cost q p ≤ℤ c → Asked (within c) q 0 (starts (q .rules)) (pos 0) p
+lawful-asked q c p e h =
     (source-fits (q .rules) p (and-r (allowed (q .steps) (q .sets) p) (every (keepsRule p) (q .rules)) e), omega (zarith, sum (pos 0) (prices q 0 p)))
 
 -- so it is a path of the finished diagram
 pub kept : (q : Campaign) (w n : ℕ) (c : ℤ) (p : List ℕ) → lawful q p ≡ true → cost q p ≤ℤ c → 0 < w → isPath (relaxedArcs q w n c) p ≡ true
 kept q w n c p e h hw =
-    dropped onPath q (rounds c q n (built relaxed q w)) p tt (rounds-keep c q n (built relaxed q w) p (lawful-passes q c p e h) (lawful-walks q w p hw e))
+    dropped onPath q (rounds c q n (built relaxed q w)) p tt (rounds-keep c q n (built relaxed q w) p (lawful-asked q c p e h) (lawful-walks q w p hw e))
 
 -- ---- the bound
 -- it is there, and at most z

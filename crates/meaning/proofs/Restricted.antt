@@ -18,7 +18,7 @@ use Rattle.meaning.specs.Plan.{Rule, Campaign, total, keepsRule, allows,
 use Rattle.meaning.specs.Diagram.{State, Node, Rank, has, child, reach, mayKeep, mayKeepAll, arrivals, states, restricted, placeByte, arcByte, sinkByte, firstAppearance, layers, starts, source, built}
 use Rattle.meaning.specs.Filter.{onPath, restrictedArcs}
 use Rattle.meaning.specs.Bound.{walks, isPath}
-use Rattle.meaning.proofs.Sound.{Fits, child-fits, absent, Found}
+use Rattle.meaning.proofs.Sound.{Fits, child-fits, noNode, Found}
 use Rattle.meaning.proofs.Walks.{next, fewer-walks}
 use Rattle.meaning.proofs.Layers.{child-found, arc-at}
 use Rattle.meaning.proofs.Drops.{drops-fewer}
@@ -53,39 +53,39 @@ fits-keeps (r ∷ rs) p h =
 module _ (o : Rank) (q : Campaign) where
   module _ (w : ℕ) where
     -- the byte of a kept state is its place, and the node there has that state
-    kept-at : (c : State) (ts : List Node) (j : ℕ) → Found c ts → placeByte restricted w (place (has c) ts) ≡ suc j → getD (take w ts) j absent .0 ≡ c
+    kept-at : (c : State) (ts : List Node) (j : ℕ) → Found c ts → placeByte restricted w (place (has c) ts) ≡ suc j → getD (take w ts) j noNode .0 ≡ c
     kept-at c ts j h e = go (ltb (place (has c) ts) w) refl
       where
-        go : (t : Bool) → ltb (place (has c) ts) w ≡ t → getD (take w ts) j absent .0 ≡ c
+        go : (t : Bool) → ltb (place (has c) ts) w ≡ t → getD (take w ts) j noNode .0 ≡ c
         go true f =
             let is : placeByte restricted w (place (has c) ts) ≡ suc (place (has c) ts) = rw f refl in
             let same : j ≡ place (has c) ts = omega arith in
-            rw (same, getD-take w ts (place (has c) ts) absent (ltb-true (place (has c) ts) w f)) (h .is)
+            rw (same, getD-take w ts (place (has c) ts) noNode (ltb-true (place (has c) ts) w f)) (h .is)
         go false f = let is : placeByte restricted w (place (has c) ts) ≡ 0 = rw f refl in absurd (omega arith)
 
     -- a path from the node at place k of layer i is allowed, and fits the node's state
-    layers-fit : (s : ℕ) (ss : List ℕ) (i : ℕ) (ns : List Node) (k : ℕ) (p : List ℕ) → length (getD ns k absent .0) ≡ length (q .rules)
-        → walks (map (λ l. l .arcs) (layers restricted o q w i ns (s ∷ ss))) k p ≡ true → (allowed (q .steps) (s ∷ ss) p ≡ true) × Fits (q .rules) i (getD ns k absent .0) p
+    layers-fit : (s : ℕ) (ss : List ℕ) (i : ℕ) (ns : List Node) (k : ℕ) (p : List ℕ) → length (getD ns k noNode .0) ≡ length (q .rules)
+        → walks (map (λ l. l .arcs) (layers restricted o q w i ns (s ∷ ss))) k p ≡ true → (allowed (q .steps) (s ∷ ss) p ≡ true) × Fits (q .rules) i (getD ns k noNode .0) p
     layers-fit s [] i ns k [] l e = absurd (true≢false (sym e))
     layers-fit s [] i ns k (v ∷ []) l e =
-        let t = getD ns k absent .0 in
+        let t = getD ns k noNode .0 in
         let x = next (λ j. walks [] j []) (getD (getD (map (map sinkByte) (map (arrivals o q i s []) ns)) k []) v 0) e in
         let a = arc-at o q i s [] sinkByte refl ns k v (x .to) (x .byte) .1 in (
           and-both (allows (q .steps) s v) true (a .allow) refl,
-          rw (← child-fits (q .rules) i v t []) (sink-fits (q .steps) (q .rules) (suc i) (child (q .rules) i v t) (child-length (q .rules) i v t l) (a .hopes)),
+          rw (← child-fits (q .rules) i v t []) (sink-fits (q .steps) (q .rules) (suc i) (child (q .rules) i v t) (child-length (q .rules) i v t l) (a .stands)),
         )
     layers-fit s [] i ns k (v ∷ u ∷ p) l e =
         absurd (true≢false (sym (next (λ j. walks [] j (u ∷ p)) (getD (getD (map (map sinkByte) (map (arrivals o q i s []) ns)) k []) v 0) e .on)))
     layers-fit s (s′ ∷ ss) i ns k [] l e = absurd (true≢false (sym e))
     layers-fit s (s′ ∷ ss) i ns k (v ∷ p) l e =
-        let t = getD ns k absent .0 in
+        let t = getD ns k noNode .0 in
         let c = child (q .rules) i v t in
         let os = map (arrivals o q i s (s′ ∷ ss)) ns in
         let ts = states os in
         let x = next (λ j. walks (map (λ l. l .arcs) (layers restricted o q w (suc i) (take w ts) (s′ ∷ ss))) j p) (getD (getD (map (map (arcByte restricted w ts)) os) k []) v 0) e in
         let both = arc-at o q i s (s′ ∷ ss) (arcByte restricted w ts) refl ns k v (x .to) (x .byte) in
         let a = both .1 in
-        let at = kept-at c ts (x .to) (child-found o q i s (s′ ∷ ss) ns k v (both .0) (a .allow) (a .hopes)) (a .lands) in
+        let at = kept-at c ts (x .to) (child-found o q i s (s′ ∷ ss) ns k v (both .0) (a .allow) (a .stands)) (a .lands) in
         let rest = layers-fit s′ ss (suc i) (take w ts) (x .to) p (rw at (child-length (q .rules) i v t l)) (x .on) in
         (and-both (allows (q .steps) s v) (allowed (q .steps) (s′ ∷ ss) p) (a .allow) (rest .0), rw (← child-fits (q .rules) i v t p) (rw at at (rest .1)))
 

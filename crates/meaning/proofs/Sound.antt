@@ -163,37 +163,37 @@ source-fits (r ∷ rs) p e =
 
 -- ---- merging: the node that stands for a state is wider than that state
 -- the node at a place that has none
-abbrev pub absent : Node
-absent = ([], pos 0)
+abbrev pub noNode : Node
+noNode = ([], pos 0)
 
 all-wider : (n : Node) (ns : List Node) → Wider (mergedAll n ns .0) (n .0)
 all-wider n [] = wider-refl (n .0)
 all-wider n (m ∷ ns) =
     wider-trans (mergedAll (mergedNode n m) ns .0) (mergedNode n m .0) (n .0) (all-wider (mergedNode n m) ns) (merged-wider (n .0) (m .0) .0)
 
-all-wider-at : (n : Node) (ns : List Node) (j : ℕ) → j < length ns → Wider (mergedAll n ns .0) (getD ns j absent .0)
+all-wider-at : (n : Node) (ns : List Node) (j : ℕ) → j < length ns → Wider (mergedAll n ns .0) (getD ns j noNode .0)
 all-wider-at n [] j h = absurd (omega arith)
 all-wider-at n (m ∷ ns) zero h =
     wider-trans (mergedAll (mergedNode n m) ns .0) (mergedNode n m .0) (m .0) (all-wider (mergedNode n m) ns) (merged-wider (n .0) (m .0) .1)
 all-wider-at n (m ∷ ns) (suc j) h = all-wider-at (mergedNode n m) ns j (omega arith)
 
 -- node W is there, and wider than each that shares it
-shared-wider : (ns : List Node) (j : ℕ) → j < length ns → (length (shared ns) ≡ 1) × Wider (getD (shared ns) 0 absent .0) (getD ns j absent .0)
+shared-wider : (ns : List Node) (j : ℕ) → j < length ns → (length (shared ns) ≡ 1) × Wider (getD (shared ns) 0 noNode .0) (getD ns j noNode .0)
 shared-wider [] j h = absurd (omega arith)
 shared-wider (n ∷ ns) zero h = (refl, all-wider n ns)
 shared-wider (n ∷ ns) (suc j) h = (refl, all-wider-at n ns j (omega arith))
 
 -- the node that stands for the state at place j of a layer is there, and wider than that state
 pub node-wider : (w : ℕ) (ts : List Node) (j : ℕ) → 0 < w → j < length ts
-    → (min j (w - 1) < length (nodesOf relaxed w ts)) × Wider (getD (nodesOf relaxed w ts) (min j (w - 1)) absent .0) (getD ts j absent .0)
+    → (min j (w - 1) < length (nodesOf relaxed w ts)) × Wider (getD (nodesOf relaxed w ts) (min j (w - 1)) noNode .0) (getD ts j noNode .0)
 node-wider w ts j hw h = go (leb (length ts) w) refl
   where
     go : (t : Bool) → leb (length ts) w ≡ t
-        → (min j (w - 1) < length (cond t ts (take (w - 1) ts ++ shared (drop (w - 1) ts)))) × Wider (getD (cond t ts (take (w - 1) ts ++ shared (drop (w - 1) ts))) (min j (w - 1)) absent .0) (getD ts j absent .0)
+        → (min j (w - 1) < length (cond t ts (take (w - 1) ts ++ shared (drop (w - 1) ts)))) × Wider (getD (cond t ts (take (w - 1) ts ++ shared (drop (w - 1) ts))) (min j (w - 1)) noNode .0) (getD ts j noNode .0)
     go true e =
         let few = leb-true (length ts) w e in
         let same : min j (w - 1) ≡ j = omega arith in
-        rw same (h, wider-refl (getD ts j absent .0))
+        rw same (h, wider-refl (getD ts j noNode .0))
     go false e =
         let head = take (w - 1) ts in
         let rest = drop (w - 1) ts in
@@ -204,12 +204,12 @@ node-wider w ts j hw h = go (leb (length ts) w) refl
             | yes a ↦
                 let same : min j (w - 1) ≡ j = omega arith in
                 let f : j < length head = simp length-take (omega arith) in
-                rw (same, List·getD-append head (shared rest) absent j f, getD-take (w - 1) ts j absent a) (wider-refl (getD ts j absent .0))
+                rw (same, List·getD-append head (shared rest) noNode j f, getD-take (w - 1) ts j noNode a) (wider-refl (getD ts j noNode .0))
             | no f ↦
                 let last : min j (w - 1) ≡ length head + 0 = simp length-take (omega arith) in
                 let again : w - 1 + (j - (w - 1)) ≡ j = omega arith in
                 let wide = shared-wider rest (j - (w - 1)) (simp length-drop (omega arith)) .1 in
-                rw (last, getD-append-add head (shared rest) 0 absent) (rw (getD-drop (w - 1) ts (j - (w - 1)) absent, again) at wide)
+                rw (last, getD-append-add head (shared rest) 0 noNode) (rw (getD-drop (w - 1) ts (j - (w - 1)) noNode, again) at wide)
           ],
         )
 
@@ -237,7 +237,7 @@ data Has (t : State) : List Node → Type 0 where
 
 pub record Found (t : State) (ns : List Node) : Type 0 where
   pub below : place (has t) ns < length ns
-  pub is : getD ns (place (has t) ns) absent .0 ≡ t
+  pub is : getD ns (place (has t) ns) noNode .0 ≡ t
 
 found : {t : State} {ns : List Node} → Has t ns → Found t ns
 found {t} (first {ns = ns}) = record { below = rw (eqState-refl t) (omega arith); is = rw (eqState-refl t) }
