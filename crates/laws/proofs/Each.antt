@@ -4,7 +4,7 @@ use mathlib.Core.List.{List, [], _∷_, _++_, map}
 use mathlib.Core.Bool.{Bool, true, false, cond}
 use Prim.Native.Nat.{ℕ, zero, suc, _+_, _<_}
 use native.Mathlib.Omega.{arith}
-use lib.ListN.{getD}
+use lib.ListN.{getD, take, drop}
 use Rattle.laws.specs.Lists.{keep, every, gather, flat, from}
 use Rattle.laws.proofs.Lists.{and-l, and-r, and-both, In, here, there}
 
@@ -37,6 +37,16 @@ module _ {A : Type 0} (P : A → Type 0) where
       go : (t : Bool) → Each P (keep f l) → Each P (cond t (x ∷ keep f l) (keep f l))
       go true k = (h .0, k)
       go false k = k
+
+  pub each-take : (k : ℕ) (l : List A) → Each P l → Each P (take k l)
+  each-take zero l h = tt
+  each-take (suc k) [] h = tt
+  each-take (suc k) (x ∷ l) h = (h .0, each-take k l (h .1))
+
+  pub each-drop : (k : ℕ) (l : List A) → Each P l → Each P (drop k l)
+  each-drop zero l h = h
+  each-drop (suc k) [] h = tt
+  each-drop (suc k) (x ∷ l) h = each-drop k l (h .1)
 
   pub each-flat : (l : List (List A)) → Each (Each P) l → Each P (flat l)
   each-flat [] h = tt

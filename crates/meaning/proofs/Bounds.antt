@@ -8,9 +8,8 @@ use Prim.Native.Nat.{ℕ, _<_}
 use lib.IntN.{ℤ}
 use lib.Signed.{leZ, _≤ℤ_}
 use Rattle.laws.specs.Z.{zarith}
-use Rattle.laws.specs.Lists.{every}
-use Rattle.laws.proofs.Lists.{and-l, In, in-keep, in-kept, keep-agree, ordered-keep}
-use Rattle.meaning.specs.Plan.{Campaign, slots, allowed, keepsRule, lawful, cost, plans, lawfuls, after, cheapest}
+use Rattle.laws.proofs.Lists.{In, in-keep, in-kept, keep-agree, ordered-keep}
+use Rattle.meaning.specs.Plan.{Campaign, slots, allowed, lawful, cost, plans, lawfuls, after, cheapest}
 use Rattle.meaning.specs.Diagram.{Arcs, relaxed, restricted, built, isExact}
 use Rattle.meaning.specs.Filter.{Numbers, onPath, relaxedArcs, restrictedArcs}
 use Rattle.meaning.specs.Bound.{isPath, paths, bound, dual, shown, primal, least}
@@ -22,13 +21,10 @@ use Rattle.meaning.proofs.Allowed.{Allowed, relaxed-allowed, restricted
 use Rattle.meaning.proofs.Attains.{PathOf, bound-attained, sourceUp, source-path}
 use Rattle.meaning.proofs.Cheapest.{Cheapest, some-cheapest, cheapest-is}
 use Rattle.meaning.proofs.Exact.{exact-same, exact-lawful}
-use Rattle.meaning.proofs.Order.{plans-ordered, plans-in}
+use Rattle.meaning.proofs.Order.{plans-ordered, plans-in, lawful-allowed}
 
 in-paths : (q : Campaign) (a : Arcs) (p : List ℕ) → allowed (q .steps) (q .sets) p ≡ true → isPath a p ≡ true → In p (paths q a)
 in-paths q a p e h = in-keep (isPath a) h (plans-in (q .steps) (q .sets) p e)
-
-lawful-allowed : (q : Campaign) (p : List ℕ) → lawful q p ≡ true → allowed (q .steps) (q .sets) p ≡ true
-lawful-allowed q p e = and-l (allowed (q .steps) (q .sets) p) (every (keepsRule p) (q .rules)) e
 
 -- ---- the dual bound
 -- it is missing only if no lawful plan is within the ceiling

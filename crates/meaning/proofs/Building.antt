@@ -3,7 +3,7 @@ use mathlib.Core.Path.{_≡_, refl}
 use mathlib.Core.List.{List, [], _∷_, _++_, map}
 use mathlib.Core.Bool.{Bool, true, false, _&&_, cond}
 use mathlib.Core.Option.{Option, none, some}
-use Prim.Native.Nat.{ℕ, zero, suc, _-_}
+use Prim.Native.Nat.{ℕ, suc, _-_}
 use native.Mathlib.Omega.{arith}
 use lib.Dec.{leb}
 use lib.ListN.{length, take, drop}
@@ -12,7 +12,7 @@ use lib.Signed.{leZ}
 use Rattle.laws.specs.Z.{minZ, Within}
 use Rattle.laws.specs.Lists.{gather, flat, from}
 use Rattle.laws.proofs.Lists.{and-l, In, here, there}
-use Rattle.laws.proofs.Each.{Each, each-of, each-in, each-append, each-flat, each-gather, each-map}
+use Rattle.laws.proofs.Each.{Each, each-of, each-in, each-append, each-take, each-drop, each-flat, each-gather, each-map}
 use Rattle.meaning.specs.Plan.{Rule, Campaign, allows, stepsOf}
 use Rattle.meaning.specs.Diagram.{State, mergedState, child, span, reach, reaches, mayKeepAll, Node, Rank, arrival, arrivals, has, arrive, distinct, placed, ranked, states, Builder, relaxed, restricted, arcByte, sinkByte, mergedNode, mergedAll, shared, nodesOf, Layer, layers, layersOf, firstAppearance, source}
 use Rattle.meaning.specs.Running.{ends, meetingSums, layerNumbers, layersNumbers, buildNumbers, greatestSize}
@@ -92,16 +92,6 @@ module _ (P : State → Type 0) (join : (s t : State) → P s → P t → P (mer
   ranked-has [] h = tt
   ranked-has (c ∷ ns) h = placed-has c (ranked ns) (h .0) (ranked-has ns (h .1))
 
-  take-has : (k : ℕ) (ns : List Node) → Each OfNode ns → Each OfNode (take k ns)
-  take-has zero ns h = tt
-  take-has (suc k) [] h = tt
-  take-has (suc k) (n ∷ ns) h = (h .0, take-has k ns (h .1))
-
-  drop-has : (k : ℕ) (ns : List Node) → Each OfNode ns → Each OfNode (drop k ns)
-  drop-has zero ns h = h
-  drop-has (suc k) [] h = tt
-  drop-has (suc k) (n ∷ ns) h = drop-has k ns (h .1)
-
   merged-has : (n : Node) (ns : List Node) → OfNode n → Each OfNode ns → OfNode (mergedAll n ns)
   merged-has n [] h k = h
   merged-has n (c ∷ ns) h k = merged-has (mergedNode n c) ns (join (n .0) (c .0) h (k .0)) (k .1)
@@ -111,12 +101,12 @@ module _ (P : State → Type 0) (join : (s t : State) → P s → P t → P (mer
   shared-has (n ∷ ns) h = (merged-has n ns (h .0) (h .1), tt)
 
   nodes-has : (b : Builder) (w : ℕ) (ns : List Node) → Each OfNode ns → Each OfNode (nodesOf b w ns)
-  nodes-has restricted w ns h = take-has w ns h
+  nodes-has restricted w ns h = each-take OfNode w ns h
   nodes-has relaxed w ns h = go (leb (length ns) w)
     where
       go : (t : Bool) → Each OfNode (cond t ns (take (w - 1) ns ++ shared (drop (w - 1) ns)))
       go true = h
-      go false = each-append OfNode (take (w - 1) ns) (shared (drop (w - 1) ns)) (take-has (w - 1) ns h) (shared-has (drop (w - 1) ns) (drop-has (w - 1) ns h))
+      go false = each-append OfNode (take (w - 1) ns) (shared (drop (w - 1) ns)) (each-take OfNode (w - 1) ns h) (shared-has (drop (w - 1) ns) (each-drop OfNode (w - 1) ns h))
 
   next-has : (b : Builder) (w : ℕ) (os : List (List (Option Node))) → Each (Each (OfChild P)) os → Each OfNode (nodesOf b w (states os))
   next-has b w os h = nodes-has b w (states os) (ranked-has (distinct [] (flat os)) (distinct-has [] (flat os) tt (each-flat (OfChild P) os h)))

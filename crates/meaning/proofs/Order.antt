@@ -9,7 +9,7 @@ use lib.Dec.{eqb, ltb}
 use borrow.Author.Tests.{ltb-true, lt-ltb, le-ltb, eq-eqb, ne-eqb}
 use Rattle.laws.specs.Lists.{every, gather, from}
 use Rattle.laws.proofs.Lists.{and-l, and-r, false-and, or-neither, no-true, In, here, in-map, in-made, every-append, Ordered, ordered-keep}
-use Rattle.meaning.specs.Plan.{bit, allows, allowed, stepsOf, plans, after}
+use Rattle.meaning.specs.Plan.{Campaign, bit, allows, allowed, keepsRule, lawful, stepsOf, plans, after}
 use Rattle.meaning.proofs.Sound.{in-steps}
 
 -- ---- dictionary order
@@ -104,3 +104,6 @@ plans-in k (s ∷ ss) [] e = absurd (true≢false (sym e))
 plans-in k (s ∷ ss) (v ∷ p) e =
     in-made (λ v. map (λ p. v ∷ p) (plans k ss)) (in-steps k s v (and-l (allows k s v) (allowed k ss p) e))
     (in-map (λ p. v ∷ p) (plans-in k ss p (and-r (allows k s v) (allowed k ss p) e)))
+
+pub lawful-allowed : (q : Campaign) (p : List ℕ) → lawful q p ≡ true → allowed (q .steps) (q .sets) p ≡ true
+lawful-allowed q p e = and-l (allowed (q .steps) (q .sets) p) (every (keepsRule p) (q .rules)) e

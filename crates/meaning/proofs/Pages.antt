@@ -13,13 +13,13 @@ use lib.IntN.{ℤ}
 use lib.Signed.{leZ}
 use Rattle.laws.specs.Z.{zarith}
 use Rattle.laws.specs.Lists.{keep, every, lastOr}
-use Rattle.laws.proofs.Lists.{and-l, and-r, and-both, and-true, and-false, In, in-keep, in-kept, every-append, every-keep, every-kept, every-more, every-so, every-in, keep-every, keep-length, keep-keep, keep-swap, keep-agree, last-passes, Ordered, ordered-keep}
-use Rattle.meaning.specs.Plan.{Campaign, slots, allowed, stepsOf, plans, keepsRule, lawful, lawfuls, cost, after}
+use Rattle.laws.proofs.Lists.{and-l, and-r, and-both, and-true, In, in-keep, in-kept, every-append, every-keep, every-kept, every-more, every-so, every-in, keep-every, keep-length, keep-keep, keep-swap, keep-agree, last-passes, Ordered, ordered-keep}
+use Rattle.meaning.specs.Plan.{Campaign, slots, stepsOf, plans, lawful, lawfuls, cost, after}
 use Rattle.meaning.specs.Diagram.{Arcs}
 use Rattle.meaning.specs.Filter.{relaxedArcs}
 use Rattle.meaning.specs.Bound.{isPath, paths}
 use Rattle.meaning.specs.Page.{wanted, listed, walked, pageOf, page, drawn, ending}
-use Rattle.meaning.proofs.Order.{after-trans, after-irrefl, after-asym, led, plans-ordered, plans-in}
+use Rattle.meaning.proofs.Order.{after-trans, after-irrefl, after-asym, led, plans-ordered, plans-in, lawful-allowed}
 use Rattle.meaning.proofs.Keeps.{kept}
 
 -- strictly after each other: each once
@@ -28,7 +28,7 @@ listed-ordered q c s = ordered-keep after (wanted q c s) (lawfuls q) (ordered-ke
 
 pub listed-in : (q : Campaign) (c : ℤ) (s p : List ℕ) → lawful q p ≡ true → wanted q c s p ≡ true → In p (listed q c s)
 listed-in q c s p e h =
-    in-keep (wanted q c s) h (in-keep (lawful q) e (plans-in (q .steps) (q .sets) p (and-l (allowed (q .steps) (q .sets) p) (every (keepsRule p) (q .rules)) e)))
+    in-keep (wanted q c s) h (in-keep (lawful q) e (plans-in (q .steps) (q .sets) p (lawful-allowed q p e)))
 
 -- what is listed is lawful, within the ceiling and after the start
 pub listed-are : (q : Campaign) (c : ℤ) (s p : List ℕ) → In p (listed q c s) → (lawful q p ≡ true) × (wanted q c s p ≡ true)
@@ -45,7 +45,7 @@ after-none (v ∷ vs) rest = every-append (after []) (map (λ p. v ∷ p) rest) 
     go (p ∷ l) = go l
 
 -- with a slot or more, all lawful plans within the ceiling are listed after it
-pub listed-all : (q : Campaign) (c : ℤ) → 0 < slots q → listed q c [] ≡ keep (λ p. leZ (cost q p) c) (lawfuls q)
+listed-all : (q : Campaign) (c : ℤ) → 0 < slots q → listed q c [] ≡ keep (λ p. leZ (cost q p) c) (lawfuls q)
 listed-all q c h =
     keep-agree (wanted q c []) (λ p. leZ (cost q p) c) (lawfuls q)
     (λ p i. and-true (leZ (cost q p) c) (after [] p) (every-in (after []) (lawfuls q) (every-keep (after []) (lawful q) (plans (q .steps) (q .sets)) (go (q .sets) h)) i))
@@ -53,22 +53,6 @@ listed-all q c h =
     go : (ss : List ℕ) → 0 < length ss → every (after []) (plans (q .steps) ss) ≡ true
     go [] h = absurd (omega arith)
     go (s ∷ ss) h = after-none (stepsOf (q .steps) s) (plans (q .steps) ss)
-
--- with none, the only plan is the empty one, which is after no start
-pub listed-none : (q : Campaign) (c : ℤ) (s : List ℕ) → slots q ≡ 0 → listed q c s ≡ []
-listed-none q c s e = go (q .sets) e
-  where
-    no : (s : List ℕ) → after s [] ≡ false
-    no [] = refl
-    no (u ∷ s) = refl
-
-    one : (t : Bool) → keep (wanted q c s) (cond t ([] ∷ []) []) ≡ []
-    one true = rw (and-false (leZ (cost q []) c) (after s []) (no s))
-    one false = refl
-
-    go : (ss : List ℕ) → length ss ≡ 0 → keep (wanted q c s) (keep (lawful q) (plans (q .steps) ss)) ≡ []
-    go [] e = one (lawful q [])
-    go (t ∷ ss) e = absurd (omega arith)
 
 -- ---- behind the last plan of a page stands what the page left
 behind : (p : List ℕ) (l : List (List ℕ)) (k : ℕ) → Ordered after (p ∷ l) → keep (after (lastOr p (take k l))) (p ∷ l) ≡ drop k l
@@ -102,7 +86,7 @@ module _ (q : Campaign) (c : ℤ) where
           ∙ ap (keep (wanted q c x)) e ∙ keep-agree (wanted q c x) (after x) (p ∷ l) (λ r i. rw (every-in cheap (p ∷ l) within i)) ∙ behind p l k order
 
   -- pages with any room, drawn one after another, list what stands after the start, and one of them says that there is no more;
-  -- as many pages as plans are enough
+  -- as many pages as plans are enough, and at least one
   pub drawn-all : (rooms : List ℕ) (s : List ℕ) → every (ltb 0) rooms ≡ true → 0 < length rooms → length (listed q c s) ≤ length rooms
       → (drawn rooms q c s ≡ listed q c s) × (ending rooms q c s ≡ true)
   drawn-all [] s f n h = absurd (omega arith)
@@ -137,7 +121,7 @@ walked-paths q a c s =
     ap (keep (wanted q c s)) (keep-swap (lawful q) (isPath a) (plans (q .steps) (q .sets))) ∙ keep-swap (wanted q c s) (isPath a) (lawfuls q)
 
 -- of the relaxed diagram's paths they are all that there are
-pub walked-relaxed : (q : Campaign) (w n : ℕ) (c : ℤ) (s : List ℕ) → 0 < w → walked (relaxedArcs q w n c) q c s ≡ listed q c s
+walked-relaxed : (q : Campaign) (w n : ℕ) (c : ℤ) (s : List ℕ) → 0 < w → walked (relaxedArcs q w n c) q c s ≡ listed q c s
 walked-relaxed q w n c s hw =
     let a = relaxedArcs q w n c in
     keep-every (isPath a) (listed q c s)

@@ -11,12 +11,12 @@ use Rattle.meaning.specs.Plan.{Campaign, plans, lawfuls, cost, cheapest}
 use Rattle.meaning.specs.Diagram.{Arcs}
 use Rattle.meaning.specs.Filter.{downNumbers, relaxedArcs, restrictedArcs}
 
--- from place k of the first layer the steps lead along arcs to the sink
+-- what f says of the place that an arc's byte leads to; where there is no arc, no
 abbrev pub along : (ℕ → Bool) → ℕ → Bool
 along f zero = false
 along f (suc j) = f j
 
--- slot by slot, from place k
+-- from place k of the first layer the steps lead along arcs to the sink, slot by slot
 abbrev pub walks : Arcs → ℕ → List ℕ → Bool
 walks [] k [] = eqb k 0
 walks [] k (v ∷ p) = false

@@ -139,7 +139,7 @@ relaxedDone q w n c l = record { answer = boundOf (dual q w n c) (isExact relaxe
 abbrev pub relaxedFault : Campaign → ℕ → ℕ → ℤ → Lent → ℕ
 relaxedFault q w n c l = firstFault ((8, wrongNumbers w n c) ∷ (11, shortDiagram q w l) ∷ [])
 
--- then 9
+-- on a campaign: 8, 11, then 9, else what is done
 abbrev pub relaxedOf : Campaign → ℕ → ℕ → ℤ → Lent → Done Bound
 relaxedOf q w n c l =
     let done = relaxedDone q w n c l in
@@ -159,7 +159,7 @@ restrictedDone q w l =
 abbrev pub restrictedFault : Campaign → ℕ → Lent → ℕ
 restrictedFault q w l = firstFault ((8, wrongWidth w) ∷ (11, shortDiagram q w l || shortPlan q l) ∷ [])
 
--- then 9
+-- on a campaign
 abbrev pub restrictedOf : Campaign → ℕ → Lent → Done Bound
 restrictedOf q w l =
     let done = restrictedDone q w l in
@@ -186,7 +186,7 @@ pageDone q w n c s l =
 abbrev pub pageFault : Campaign → ℕ → ℕ → ℤ → List ℕ → Lent → ℕ
 pageFault q w n c s l = firstFault ((8, wrongNumbers w n c) ∷ (10, wrongStart q s) ∷ (11, shortDiagram q w l || shortPlan q l) ∷ [])
 
--- then 9
+-- on a campaign: 8, 10, 11, then 9, else what is done
 abbrev pub pageOn : Campaign → ℕ → ℕ → ℤ → List ℕ → Lent → Done Count
 pageOn q w n c s l =
     let done = pageDone q w n c s l in

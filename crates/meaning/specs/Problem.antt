@@ -54,18 +54,18 @@ pub record Problem : Type 0 where
   pub rules : List Said
 
 -- ---- its campaign: the one place that looks at kinds, weights and lead-ins
+-- a number of slot i "times step": "weight times step", "coefficient times v"
+abbrev pub weighed : List ℤ → ℕ → ℕ → ℤ
+weighed w i v = getD w i (pos 0) *ℤ pos v
+
 -- "1 or 0 (among) or coefficient times v (sum)"
 abbrev pub shareOf : Terms → ℕ → ℕ → ℤ
 shareOf (among s t) i v = cond (bit s v && bit t i) (pos 1) (pos 0)
-shareOf (sums c) i v = getD c i (pos 0) *ℤ pos v
+shareOf (sums c) i v = weighed c i v
 
 -- a rule as the theorems see it; its total starts with the lead-in
 abbrev pub ruleOf : Said → Rule
 ruleOf r = record { share = shareOf (r .terms); lb = r .lb; ub = r .ub; start = r .lead }
-
--- "weight times step"
-abbrev pub weighed : List ℤ → ℕ → ℕ → ℤ
-weighed w i v = getD w i (pos 0) *ℤ pos v
 
 -- the campaign of a problem
 abbrev pub campaign : Problem → Campaign
