@@ -1,4 +1,4 @@
--- What does it say of a problem that it is in range? No fault stands, and the format has bytes for it: in words, for the tests.
+-- What does it say of a problem that it is in range? No fault stands, and the format has bytes for it: in words, where the definitions have tests.
 use mathlib.Core.Path.{_≡_, refl, sym, subst}
 use mathlib.Core.List.{List}
 use mathlib.Core.Bool.{Bool, true, false, not, _&&_, cond, true≢false}
@@ -31,6 +31,12 @@ size-within m z e =
     let high = and-r (leZ (negℤ (pos m)) z) (leZ z (pos m)) e in
     record { size = omega (zarith, neg (pos m), parts z) }
 
+pub each-size : (m : ℕ) (l : List ℤ) → Each (Within m) l → every (size m) l ≡ true
+each-size m l h = each-every (size m) (Within m) (within-size m) l h
+
+pub size-each : (m : ℕ) (l : List ℤ) → every (size m) l ≡ true → Each (Within m) l
+size-each m l e = every-each (size m) (Within m) (size-within m) l e
+
 -- a size from zero on
 pub rising-within : (m : ℕ) (z : ℤ) → (pos 0 ≤ℤ z) × (z ≤ℤ pos m) → Within m z
 rising-within m z h = record { size = omega (zarith, parts z, h .0, h .1) }
@@ -39,6 +45,7 @@ rising-within m z h = record { size = omega (zarith, parts z, h .0, h .1) }
 pub record HeadRange (n m : ℕ) : Type 0 where
   -- "n, 1 to 24"
   pub some : 1 ≤ n
+  -- the upper end of that range
   pub most : n ≤ mostSlots
   -- "m, the number of rules, 0 to 8"
   pub rules : m ≤ mostRules
@@ -55,11 +62,11 @@ test-range n m e =
 pub zero-in : {l : List ℕ} → Fails rightSet l → In 0 l
 zero-in {l} (fails {x = x} i e) = subst (λ (y : ℕ). In y l) (eqb-true x 0 (not-false (eqb x 0) e)) i
 
-pub zero-test : (l : List ℕ) → (In 0 l → ⊥) → every rightSet l ≡ true
-zero-test l h = no-false (every rightSet l) (λ e. h (zero-in (every-no rightSet l e)))
+pub nonzero-test : (l : List ℕ) → (In 0 l → ⊥) → every rightSet l ≡ true
+nonzero-test l h = no-false (every rightSet l) (λ e. h (zero-in (every-no rightSet l e)))
 
-pub test-zero : (l : List ℕ) → every rightSet l ≡ true → In 0 l → ⊥
-test-zero l e i = true≢false (sym (every-in rightSet l e i))
+pub test-nonzero : (l : List ℕ) → every rightSet l ≡ true → In 0 l → ⊥
+test-nonzero l e i = true≢false (sym (every-in rightSet l e i))
 
 -- ---- the fields of a rule
 -- "bits at n and above zero"; coefficients "−1,000 to 1,000"
@@ -74,24 +81,28 @@ RightLead f (sums c) z = Within (f .sumLead) z
 
 -- no "field outside its range, or lb above ub"
 pub record RightFields (f : Format) (n : ℕ) (r : Said) : Type 0 where
+  -- the set of slots, or the coefficients
   pub terms : RightTerms f n (r .terms)
-  -- "For both, −200,000 ≤ lb ≤ ub ≤ 200,000"
+  -- "For both, −200,000 ≤ lb ≤ ub ≤ 200,000": lb within its range
   pub low : Within (f .bound) (r .lb)
+  -- ub within its range
   pub high : Within (f .bound) (r .ub)
+  -- lb not above ub
   pub order : r .lb ≤ℤ r .ub
+  -- the lead-in
   pub lead : RightLead f (r .terms) (r .lead)
 
 module _ (f : Format) (n : ℕ) where
   terms-test : (t : Terms) → RightTerms f n t → rightTerms f n t ≡ true
   terms-test (among s t) h = eq-eqb (t / 2 ^ n) 0 (div-eq-of-lt h)
-  terms-test (sums c) h = each-every (size (f .coefficient)) (Within (f .coefficient)) (within-size (f .coefficient)) c h
+  terms-test (sums c) h = each-size (f .coefficient) c h
 
   test-terms : (t : Terms) → rightTerms f n t ≡ true → RightTerms f n t
   test-terms (among s t) e =
       let z = eqb-true (t / 2 ^ n) 0 e in
       let b : t < 1 * 2 ^ n = div-lt-iff-lt-mul {k = 2 ^ n} {x = t} {y = 1} (one-le-pow n 2 (omega arith)) .0 (omega arith) in
       omega arith
-  test-terms (sums c) e = every-each (size (f .coefficient)) (Within (f .coefficient)) (size-within (f .coefficient)) c e
+  test-terms (sums c) e = size-each (f .coefficient) c e
 
   lead-test : (t : Terms) (z : ℤ) → RightLead f t z → rightLead f t z ≡ true
   lead-test (among s t) z h = and-both (leZ (pos 0) z) (leZ z (pos (f .amongLead))) (omega (zarith, h .0)) (omega (zarith, h .1))
@@ -130,17 +141,22 @@ module _ (f : Format) (n : ℕ) where
 
 -- ---- the problem
 pub record InRange (f : Format) (p : Problem) : Type 0 where
+  -- n and m within their ranges
   pub head : HeadRange (length (p .sets)) (length (p .rules))
   -- "never zero"
   pub sets : In 0 (p .sets) → ⊥
   -- no "weight outside its range"
   pub weights : Each (Within (f .weight)) (p .weights)
+  -- no "field outside its range, or lb above ub"
   pub rules : Each (RightFields f (length (p .sets))) (p .rules)
-  -- the sets and each S fit their bytes, there is a weight, and a coefficient, for each slot
+  -- the sets fit their bytes
   pub fit : every (λ s. ltb s (256 ^ f .setBytes)) (p .sets) ≡ true
+  -- there is a weight for each slot
   pub count : eqb (length (p .weights)) (length (p .sets)) ≡ true
+  -- each S fits its bytes, or there is a coefficient for each slot
   pub held : every (λ r. holdsTerms f (length (p .sets)) (r .terms)) (p .rules) ≡ true
 
+-- the first fault is none: no test fails
 no-fault : (a b c : Bool) → eqb (cond (not a) 4 (cond (not b) 5 (cond (not c) 6 0))) 0 ≡ true → (a ≡ true) × (b ≡ true) × (c ≡ true)
 no-fault true true true e = (refl, refl, refl)
 no-fault true true false e = absurd (true≢false (sym e))
@@ -160,8 +176,8 @@ in-range f p e =
     let cd = and-l (c && d) h holds in
     record {
       head = test-range n (length (p .rules)) (ranges .0);
-      sets = test-zero (p .sets) (and-l a b (ranges .1));
-      weights = every-each (size (f .weight)) (Within (f .weight)) (size-within (f .weight)) (p .weights) (and-r a b (ranges .1));
+      sets = test-nonzero (p .sets) (and-l a b (ranges .1));
+      weights = size-each (f .weight) (p .weights) (and-r a b (ranges .1));
       rules = every-each (rightRule f n) (RightFields f n) (test-fields f n) (p .rules) (ranges .2);
       fit = and-l c d cd;
       count = and-r c d cd;
@@ -173,8 +189,8 @@ range-in f p r =
     let n = length (p .sets) in
     rw (
       range-test (r .head),
-      zero-test (p .sets) (r .sets),
-      each-every (size (f .weight)) (Within (f .weight)) (within-size (f .weight)) (p .weights) (r .weights),
+      nonzero-test (p .sets) (r .sets),
+      each-size (f .weight) (p .weights) (r .weights),
       each-every (rightRule f n) (RightFields f n) (fields-test f n) (p .rules) (r .rules),
       r .fit,
       r .count,

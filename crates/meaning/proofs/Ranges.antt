@@ -14,10 +14,10 @@ use Rattle.laws.specs.Lists.{from}
 use Rattle.laws.proofs.Lists.{in-from}
 use Rattle.laws.proofs.Each.{Each, each-of, each-at, each-append, each-keep, each-from, each-more, each-map, each-unmap, each-every, every-each}
 use Rattle.meaning.specs.Plan.{Rule, Campaign, bit, stepsOf}
-use Rattle.meaning.specs.Problem.{stepCount, mostSlots, limit, Terms, among, sums, Said, Problem, shareOf, ruleOf, weighed, campaign, Format, version1, size, inRange}
+use Rattle.meaning.specs.Problem.{stepCount, mostSlots, limit, Terms, among, sums, Said, Problem, shareOf, ruleOf, weighed, campaign, Format, version1, inRange}
 use Rattle.meaning.specs.Diagram.{Builder, relaxed, restricted, Arcs, built}
 use Rattle.meaning.specs.Running.{arcsNumbers, buildNumbers, roundNumbers, relaxedNumbers, restrictedNumbers, leaves, greatestSize, sizes, ruleSize, guard}
-use Rattle.meaning.proofs.Faultless.{within-size, rising-within, RightTerms, RightLead, RightFields, in-range}
+use Rattle.meaning.proofs.Faultless.{each-size, rising-within, RightTerms, RightLead, RightFields, in-range}
 use Rattle.meaning.proofs.Sound.{in-steps}
 use Rattle.meaning.proofs.Walks.{fewer-refl}
 use Rattle.meaning.proofs.Allowed.{arcs-more, arcs-below, OfSet, built-allowed}
@@ -46,7 +46,7 @@ module _ (q : Campaign) where
       ap not (each-every (λ z. leb z limit) (λ z. z ≤ limit) (λ z. le-leb z limit) guarding (cost, rules))
 
 none-leaves : (zs : List ℤ) → Each (Within limit) zs → leaves zs ≡ false
-none-leaves zs h = ap not (each-every (size limit) (Within limit) (within-size limit) zs h)
+none-leaves zs h = ap not (each-size limit zs h)
 
 -- all numbers of an operation, whichever builder
 pub guarded : (b : Builder) (q : Campaign) (w n : ℕ) (c : ℤ) → guard q ≡ false → leaves (buildNumbers b q w ++ roundNumbers c q n (built b q w)) ≡ false

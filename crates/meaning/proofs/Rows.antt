@@ -9,14 +9,12 @@ use lib.Dec.{eqb, leb}
 use lib.ListN.{length, take, drop}
 use lib.Seq.{take-take, take-add, drop-at, getD-take, length-take-le}
 use borrow.Author.Tests.{eqb-true, eqb-false, ne-eqb, leb-true, leb-false, le-leb, lt-leb}
-use Rattle.laws.specs.Z.{Within}
 use Rattle.laws.specs.Lists.{every, parted, same}
 use Rattle.laws.proofs.Lists.{no-true}
 use Rattle.laws.proofs.Parts.{same-true, same-yes, same-no, Fails, fails, every-no, in-no}
-use Rattle.laws.proofs.Each.{each-every, every-each}
 use Rattle.meaning.specs.Problem.{Said, Problem, Format, version1, size, rightHead, rightSet, rightRule}
 use Rattle.meaning.specs.File.{little, signed, Got, refused, got, Reader, onward, gives, part, fieldsNext, checked, refuses, amongBody, sumBody, bodyNext, kindNext, rulesNext, mark, formatNext, problemNext, ended, readOf}
-use Rattle.meaning.proofs.Faultless.{HeadRange, range-test, test-range, zero-in, zero-test, test-zero, RightFields, fields-test, test-fields, within-size, size-within}
+use Rattle.meaning.proofs.Faultless.{HeadRange, range-test, test-range, zero-in, nonzero-test, test-nonzero, RightFields, fields-test, test-fields, within-size, size-within, each-size, size-each}
 use Rattle.meaning.proofs.Table.{Known, known1, slotCount, ruleCount, setsIn, behindSets, weightsIn, behindWeights, problemIn, HeadRight, SetsRight, WeightsRight, Kind, kind-among, kind-sum, Rules, no-rules, rule-first, RulesRight, Row, head-ends, mark-wrong, version-wrong, head-wrong, sets-end, set-zero, weights-end, weight-wrong, kind-ends, kind-wrong, body-ends, field-wrong, bytes-left, Accepted, accepted}
 
 -- ---- one step of a reader
@@ -152,13 +150,14 @@ module _ (s : List ℕ) where
   weights-there : (f : Format) → slotCount s * 4 ≤ length (behindSets s f) → leb (slotCount s * 4) (length (behindSets s f)) ≡ true
   weights-there f h = le-leb (slotCount s * 4) (length (behindSets s f)) h
 
+  -- and the step sets pass their test
   sets-right : (f : Format) → SetsRight s f → every rightSet (setsIn s f) ≡ true
-  sets-right f r = zero-test (setsIn s f) (r .allowing)
+  sets-right f r = nonzero-test (setsIn s f) (r .allowing)
 
   right-weights : (f : Format) → WeightsRight s f
       → readOf s ≡ onward (rulesNext f (slotCount s) (ruleCount s) (behindWeights s f)) (λ rs u. onward (ended u) (λ v. gives (problemIn s f rs)))
   right-weights f r =
-      right-head (r .sets .head) ∙ rw (range-test (r .sets .head .range), sets-there f (r .sets .complete), sets-right f (r .sets), weights-there f (r .complete), each-every (size (f .weight)) (Within (f .weight)) (within-size (f .weight)) (weightsIn s f) (r .range))
+      right-head (r .sets .head) ∙ rw (range-test (r .sets .head .range), sets-there f (r .sets .complete), sets-right f (r .sets), weights-there f (r .complete), each-size (f .weight) (weightsIn s f) (r .range))
 
   fault-number : {f : Format} {j k : ℕ} {rs : List Said} {t : List ℕ} → RulesRight s f j rs t → j < ruleCount s → Fault f (slotCount s) k t → readOf s ≡ refused k
   fault-number {f} r h w = right-weights f (r .weights) ∙ rw (rules-stop f (slotCount s) (ruleCount s) h (r .rules) w)
@@ -217,13 +216,13 @@ module _ (s : List ℕ) where
       test-cases Outcome 5 (every rightSet (setsIn s f)) (behindSets s f) _
       (λ q. refusal (set-zero h d (zero-in (every-no rightSet (setsIn s f) q))))
       (λ q.
-      let r : SetsRight s f = record { head = h; complete = d; allowing = test-zero (setsIn s f) q } in
+      let r : SetsRight s f = record { head = h; complete = d; allowing = test-nonzero (setsIn s f) q } in
       fields-cases Outcome (slotCount s) 4 (signed 4) (behindSets s f) _
       (λ l. refusal (weights-end r l))
       (λ b.
       test-cases Outcome 5 (every (size (f .weight)) (weightsIn s f)) (behindWeights s f) _
       (λ w. refusal (weight-row r b (every-no (size (f .weight)) (weightsIn s f) w)))
-      (λ w. after-rules _ (record { sets = r; complete = b; range = every-each (size (f .weight)) (Within (f .weight)) (size-within (f .weight)) (weightsIn s f) w }) (rules-outcome f (slotCount s) (ruleCount s) (behindWeights s f)))))))
+      (λ w. after-rules _ (record { sets = r; complete = b; range = size-each (f .weight) (weightsIn s f) w }) (rules-outcome f (slotCount s) (ruleCount s) (behindWeights s f)))))))
 
   pub outcome : Outcome (readOf s)
   outcome =

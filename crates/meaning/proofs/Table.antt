@@ -15,6 +15,7 @@ use Rattle.meaning.proofs.Faultless.{HeadRange, RightFields}
 -- ---- what stands in a file
 -- the file versions of the paper
 pub data Known : Format → Type 0 where
+  -- "the version, 1"
   known1 : Known version1
 
 -- n and m
@@ -49,14 +50,16 @@ pub record HeadRight (s : List ℕ) (f : Format) : Type 0 where
   pub complete : 7 ≤ length s
   -- "Bytes 0 to 2 are the letters RTP"
   pub marked : take 3 s ≡ mark
-  -- "Bytes 3 and 4 are the version"
+  -- f is the format of a version of the paper
   pub known : Known f
+  -- "Bytes 3 and 4 are the version"
   pub version : little (take 2 (drop 3 s)) ≡ f .version
   -- n and m within their ranges
   pub range : HeadRange (slotCount s) (ruleCount s)
 
 -- the step sets are there and right
 pub record SetsRight (s : List ℕ) (f : Format) : Type 0 where
+  -- all before them is right
   pub head : HeadRight s f
   -- "all step sets present"
   pub complete : slotCount s * f .setBytes ≤ length (drop 7 s)
@@ -65,6 +68,7 @@ pub record SetsRight (s : List ℕ) (f : Format) : Type 0 where
 
 -- the weights are there and right
 pub record WeightsRight (s : List ℕ) (f : Format) : Type 0 where
+  -- all before them is right
   pub sets : SetsRight s f
   -- "all weights present"
   pub complete : slotCount s * 4 ≤ length (behindSets s f)
@@ -89,11 +93,13 @@ module _ (f : Format) (n : ℕ) where
 
 -- the first j rules are right, and t follows them
 pub record RulesRight (s : List ℕ) (f : Format) (j : ℕ) (rs : List Said) (t : List ℕ) : Type 0 where
+  -- all before them is right
   pub weights : WeightsRight s f
+  -- each complete and right
   pub rules : Rules f (slotCount s) j (behindWeights s f) rs t
 
 -- ---- the table
--- "Given exactly when no earlier fault stands and": a fault and its number
+-- "given exactly when no earlier fault stands and": a fault and its number
 pub data Row (s : List ℕ) : ℕ → Type 0 where
   -- "the file ends before the 7-byte head" is complete
   head-ends : length s < 7 → Row s 1
@@ -111,7 +117,7 @@ pub data Row (s : List ℕ) : ℕ → Type 0 where
   weights-end : {f : Format} → SetsRight s f → length (behindSets s f) < slotCount s * 4 → Row s 1
   -- "a weight outside its range"
   weight-wrong : {f : Format} {w : ℤ} → SetsRight s f → slotCount s * 4 ≤ length (behindSets s f) → In w (weightsIn s f) → (Within (f .weight) w → ⊥) → Row s 5
-  -- the file ends before "a kind byte"
+  -- the file ends before "a kind byte" is there
   kind-ends : {f : Format} {j : ℕ} {rs : List Said} → RulesRight s f j rs [] → j < ruleCount s → Row s 1
   -- "a rule with another kind"
   kind-wrong : {f : Format} {j k : ℕ} {rs : List Said} {t : List ℕ} → RulesRight s f j rs (k ∷ t) → j < ruleCount s → (k ≡ 1 → ⊥) → (k ≡ 2 → ⊥) → Row s 6
@@ -126,4 +132,5 @@ pub data Row (s : List ℕ) : ℕ → Type 0 where
 
 -- all parts are right and nothing follows
 pub data Accepted (s : List ℕ) : Problem → Type 0 where
+  -- m rules, and no "bytes after the last rule"
   accepted : {f : Format} {rs : List Said} → RulesRight s f (ruleCount s) rs [] → Accepted s (problemIn s f rs)
