@@ -69,9 +69,7 @@ fits k (pos u) = belowHalf k u
 fits k (negsuc u) = ltb (2 * u + 1) (256 ^ k)
 
 signed-bytes : (k : ℕ) (z : ℤ) → fits k z ≡ true → signed k (signedBytes k z) ≡ z
-signed-bytes k (pos u) e =
-    let h = ltb-true (2 * u) (256 ^ k) e in
-    rw (little-bytes k u (omega arith), e)
+signed-bytes k (pos u) e = rw (little-bytes k u (omega (arith, ltb-true)), e)
 signed-bytes k (negsuc u) e =
     let h = ltb-true (2 * u + 1) (256 ^ k) e in
     let v = 256 ^ k - 1 - u in
