@@ -1,20 +1,18 @@
 -- Are the bytes of a number that number again?
 use mathlib.Core.Path.{_≡_, refl, ap}
 use mathlib.Core.List.{List, [], _∷_}
-use mathlib.Core.Bool.{Bool, true, false, _&&_, cond}
+use mathlib.Core.Bool.{Bool, true, false, cond}
 use Prim.Native.Nat.{ℕ, zero, suc, _+_, _*_, _-_, _/_, _%_, _^_, _<_}
 use native.Mathlib.Nat.{pow-suc}
 use native.Mathlib.Omega.{arith}
 use borrow.Author.Tests.{ltb-true, ltb-false, lt-ltb, le-ltb}
 use lib.Dec.{ltb}
 use lib.ListN.{length}
-use lib.IntN.{ℤ, pos, negsuc, negℤ}
-use lib.Signed.{leZ}
+use lib.IntN.{ℤ, pos, negsuc}
 use Rattle.laws.specs.Lists.{every}
-use Rattle.laws.specs.Z.{zarith, neg}
+use Rattle.laws.specs.Z.{Within}
 use Rattle.laws.proofs.Lists.{and-l, and-r, and-both}
 use Rattle.laws.proofs.Parts.{Code}
-use Rattle.meaning.specs.Problem.{size}
 use Rattle.meaning.specs.File.{little, belowHalf, signed, bytes, signedBytes}
 
 -- a file is a list of these
@@ -67,14 +65,11 @@ code-little k = record {
 -- ---- two's complement
 -- k bytes hold it, with its sign
 abbrev pub fits : ℕ → ℤ → Bool
-fits k (pos u) = ltb (2 * u) (256 ^ k)
+fits k (pos u) = belowHalf k u
 fits k (negsuc u) = ltb (2 * u + 1) (256 ^ k)
 
 signed-bytes : (k : ℕ) (z : ℤ) → fits k z ≡ true → signed k (signedBytes k z) ≡ z
-signed-bytes k (pos u) e =
-    let h = ltb-true (2 * u) (256 ^ k) e in
-    let plus : belowHalf k u ≡ true = omega (arith, lt-ltb) in
-    rw (little-bytes k u (omega arith), plus)
+signed-bytes k (pos u) e = rw (little-bytes k u (omega (arith, ltb-true)), e)
 signed-bytes k (negsuc u) e =
     let h = ltb-true (2 * u + 1) (256 ^ k) e in
     let v = 256 ^ k - 1 - u in
@@ -118,15 +113,6 @@ code-signed k = record { long = λ z e. long z; low = low; reads = signed-bytes 
     low (negsuc u) = bytes-low k (256 ^ k - 1 - u)
 
 -- a number of at most this size fits
-pub size-fits : (k m : ℕ) → 2 * m < 256 ^ k → (z : ℤ) → size m z ≡ true → fits k z ≡ true
-size-fits k m h (pos u) e =
-    let r = and-r (leZ (negℤ (pos m)) (pos u)) (leZ (pos u) (pos m)) e in
-    lt-ltb (2 * u) (256 ^ k) (omega zarith)
-size-fits k m h (negsuc u) e =
-    let l = and-l (leZ (negℤ (pos m)) (negsuc u)) (leZ (negsuc u) (pos m)) e in
-    lt-ltb (2 * u + 1) (256 ^ k) (omega (zarith, neg (pos m)))
-
-pub size-rising : (m : ℕ) (z : ℤ) → (leZ (pos 0) z && leZ z (pos m)) ≡ true → size m z ≡ true
-size-rising m z e =
-    let l = and-l (leZ (pos 0) z) (leZ z (pos m)) e in
-    and-both (leZ (negℤ (pos m)) z) (leZ z (pos m)) (omega (zarith, neg (pos m))) (and-r (leZ (pos 0) z) (leZ z (pos m)) e)
+pub within-fits : (k m : ℕ) → 2 * m < 256 ^ k → (z : ℤ) → Within m z → fits k z ≡ true
+within-fits k m h (pos u) w = lt-ltb (2 * u) (256 ^ k) (omega (arith, w .size))
+within-fits k m h (negsuc u) w = lt-ltb (2 * u + 1) (256 ^ k) (omega (arith, w .size))

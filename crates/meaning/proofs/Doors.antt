@@ -20,7 +20,8 @@ use Rattle.meaning.specs.Buffers.{arcsNeed, cellsNeed}
 use Rattle.meaning.specs.File.{Got, refused, got, readOf}
 use Rattle.meaning.specs.Running.{leaves, relaxedNumbers, restrictedNumbers}
 use Rattle.meaning.specs.Calls.{Bound, Count, Lent, Done, unless, guarded, opened, wrongWidth, wrongNumbers, wrongStart, shortDiagram, shortPlan, read, judge, emptyStart, better, boundOf, noBound, relaxedDone, relaxedFault, relaxedCall, restrictedDone, restrictedFault, restrictedCall, noCount, pageDone, pageFault, pageCall}
-use Rattle.meaning.proofs.Ranges.{ranges, within-size, size-within}
+use Rattle.meaning.proofs.Faultless.{within-size, size-within}
+use Rattle.meaning.proofs.Ranges.{ranges}
 use Rattle.meaning.proofs.Bytes.{isByte}
 use Rattle.meaning.proofs.Files.{accepted-in-range}
 

@@ -8,16 +8,18 @@ use borrow.Author.Tests.{eqb-true, eq-eqb, lt-ltb}
 use lib.Dec.{eqb}
 use lib.ListN.{length, take, drop, take-append-drop, length-append, length-drop}
 use lib.Seq.{take-at, drop-at, drop-drop, drop-cons, length-take-le}
+use Rattle.laws.specs.Z.{Within}
 use Rattle.laws.specs.Lists.{every, gather}
-use Rattle.laws.proofs.Lists.{and-l, and-r, and-both, every-append, every-more}
+use Rattle.laws.proofs.Lists.{and-l, and-r, and-both, every-append}
 use Rattle.laws.proofs.Parts.{code-fields, every-take, every-drop}
-use Rattle.meaning.specs.Problem.{Said, Problem, Format, version1, size, inRange}
+use Rattle.laws.proofs.Each.{each-every}
+use Rattle.meaning.specs.Problem.{Said, Problem, Format, version1, inRange}
 use Rattle.meaning.specs.File.{got, readOf, bytes, signedBytes, ruleBytes, bytesOf}
 use Rattle.meaning.proofs.Faultless.{InRange, in-range, range-in}
-use Rattle.meaning.proofs.Rows.{range-test, test-range, accepted-when}
-use Rattle.meaning.proofs.Table.{Known, known1, slotCount, ruleCount, HeadRange, setsIn, behindSets, weightsIn, behindWeights, problemIn, HeadRight, WeightsRight, RulesRight, Accepted, accepted}
-use Rattle.meaning.proofs.Bytes.{isByte, below, fits, code-little, code-signed, size-fits}
-use Rattle.meaning.proofs.Written.{Roomy, Read, rules-write, rules-read-again, rules-low}
+use Rattle.meaning.proofs.Rows.{accepted-when}
+use Rattle.meaning.proofs.Table.{Known, known1, slotCount, ruleCount, setsIn, behindSets, weightsIn, behindWeights, problemIn, HeadRight, WeightsRight, RulesRight, Accepted, accepted}
+use Rattle.meaning.proofs.Bytes.{isByte, below, fits, code-little, code-signed, within-fits}
+use Rattle.meaning.proofs.Written.{Roomy, RulesWhole, rules-write, rules-read-again, rules-low}
 
 known-roomy : {f : Format} → Known f → Roomy f
 known-roomy known1 = omega arith
@@ -69,10 +71,10 @@ module _ (s : List ℕ) (f : Format) (low : every isByte s ≡ true) (w : Weight
       sym (code-little 2 .writes (take 2 (drop 3 s)) (length-take-le 2 (drop 3 s) (omega (arith, length-drop 3 s, h .complete))) (every-take isByte 2 (drop 3 s) (every-drop isByte 3 s low)))
       ∙ ap (bytes 2) (h .version)
 
-  module _ {rs : List Said} (o : Read f (slotCount s) (ruleCount s) (behindWeights s f) rs []) where
+  module _ {rs : List Said} (o : RulesWhole f (slotCount s) (ruleCount s) (behindWeights s f) rs []) where
     said-in-range : inRange f (problemIn s f rs) ≡ true
     said-in-range = range-in f (problemIn s f rs) (record {
-      head = rw (set-count, o .count) (range-test (w .sets .head .range));
+      head = rw (set-count, o .count) (w .sets .head .range);
       sets = w .sets .allowing;
       weights = w .range;
       rules = rw set-count (o .right);
@@ -117,15 +119,12 @@ module _ (f : Format) (p : Problem) (known : Known f) (r : InRange f p) where
   abbrev rest : List ℕ
   rest = gather (ruleBytes f) (p .rules)
 
-  range : HeadRange n (length (p .rules))
-  range = test-range n (length (p .rules)) (r .head)
-
   sets-fit : (every (below (f .setBytes)) (p .sets) && eqb n n) ≡ true
   sets-fit = and-both (every (below (f .setBytes)) (p .sets)) (eqb n n) (r .fit) (eq-eqb n n refl)
 
   weights-fit : (every (fits 4) (p .weights) && eqb (length (p .weights)) n) ≡ true
   weights-fit =
-      and-both (every (fits 4) (p .weights)) (eqb (length (p .weights)) n) (every-more (size (f .weight)) (fits 4) (size-fits 4 (f .weight) (known-roomy known .weight)) (p .weights) (r .weights)) (r .count)
+      and-both (every (fits 4) (p .weights)) (eqb (length (p .weights)) n) (each-every (fits 4) (Within (f .weight)) (within-fits 4 (f .weight) (known-roomy known .weight)) (p .weights) (r .weights)) (r .count)
 
   sets-long : length setBytes ≡ n * f .setBytes
   sets-long = code-fields (code-little (f .setBytes)) n .long (p .sets) sets-fit
@@ -152,7 +151,7 @@ module _ (f : Format) (p : Problem) (known : Known f) (r : InRange f p) where
     marked = refl;
     known = known;
     version = code-little 2 .reads (f .version) (lt-ltb (f .version) (256 ^ 2) (known-roomy known .version));
-    range = range;
+    range = r .head;
   }
 
   rules-again : RulesRight s f (length (p .rules)) (p .rules) []
@@ -166,7 +165,7 @@ module _ (f : Format) (p : Problem) (known : Known f) (r : InRange f p) where
       complete = rw after-sets (omega (arith, length-append weightBytes rest, weights-long));
       range = rw weights-again (r .weights);
     };
-    rules = rw after-weights (rw (append-nil rest) at (rules-read-again f n (known-roomy known) (omega (arith, range .most)) (p .rules) [] (r .rules) (r .held)));
+    rules = rw after-weights (rw (append-nil rest) at (rules-read-again f n (known-roomy known) (omega (arith, r .head .most)) (p .rules) [] (r .rules) (r .held)));
   }
 
   accepted-again : Accepted s p
@@ -176,7 +175,7 @@ module _ (f : Format) (p : Problem) (known : Known f) (r : InRange f p) where
   bytes-low =
       let m = length (p .rules) in
       let v = f .version in
-      rw (lt-ltb (v % 256) 256 (omega arith), lt-ltb (v / 256 % 256) 256 (omega arith), lt-ltb n 256 (omega (arith, range .most)), lt-ltb m 256 (omega (arith, range .rules)))
+      rw (lt-ltb (v % 256) 256 (omega arith), lt-ltb (v / 256 % 256) 256 (omega arith), lt-ltb n 256 (omega (arith, r .head .most)), lt-ltb m 256 (omega (arith, r .head .rules)))
       (every-append isByte (setBytes ++ weightBytes) rest
       (every-append isByte setBytes weightBytes (code-fields (code-little (f .setBytes)) n .low (p .sets)) (code-fields (code-signed 4) n .low (p .weights)))
       (rules-low f (p .rules)))

@@ -8,21 +8,20 @@ use native.Mathlib.Nat.{zero-add, mul-le-mul-right}
 use borrow.Author.Tests.{leb-true, le-leb, not-false}
 use lib.Dec.{leb}
 use lib.ListN.{length}
-use lib.IntN.{ℤ, pos, negℤ, natAbs}
-use lib.Signed.{leZ}
-use Rattle.laws.specs.Z.{zarith, neg, parts, Within, mul-within}
-use Rattle.laws.specs.Lists.{every, from}
-use Rattle.laws.proofs.Lists.{and-l, and-r, and-both, in-from}
+use lib.IntN.{ℤ, pos, _+ℤ_}
+use Rattle.laws.specs.Z.{Within, mul-within}
+use Rattle.laws.specs.Lists.{from}
+use Rattle.laws.proofs.Lists.{in-from}
 use Rattle.laws.proofs.Each.{Each, each-of, each-at, each-append, each-keep, each-from, each-more, each-map, each-unmap, each-every, every-each}
-use Rattle.meaning.specs.Plan.{Rule, Campaign, bit, stepsOf}
-use Rattle.meaning.specs.Problem.{stepCount, mostSlots, mostRules, limit, Terms, among, sums, Said, Problem, shareOf, ruleOf, weighed, campaign, Format, version1, size, rightTerms, rightLead, rightRule, inRange}
+use Rattle.meaning.specs.Plan.{Rule, Campaign, bit, summed, total, stepsOf}
+use Rattle.meaning.specs.Problem.{stepCount, mostSlots, limit, Terms, among, sums, Said, Problem, shareOf, ruleOf, weighed, campaign, Format, version1, inRange}
 use Rattle.meaning.specs.Diagram.{Builder, relaxed, restricted, Arcs, built}
 use Rattle.meaning.specs.Running.{arcsNumbers, buildNumbers, roundNumbers, relaxedNumbers, restrictedNumbers, leaves, greatestSize, sizes, ruleSize, guard}
-use Rattle.meaning.proofs.Faultless.{in-range}
+use Rattle.meaning.proofs.Faultless.{each-size, rising-within, RightTerms, RightLead, RightFields, in-range}
 use Rattle.meaning.proofs.Sound.{in-steps}
 use Rattle.meaning.proofs.Walks.{fewer-refl}
 use Rattle.meaning.proofs.Allowed.{arcs-more, arcs-below, OfSet, built-allowed}
-use Rattle.meaning.proofs.Sizes.{either, costRule, counted, ahead, Bears, Room, startSize, arcs-within, rounds-within}
+use Rattle.meaning.proofs.Sizes.{added, either, costRule, counted, ahead, Bears, Room, startSize, arcs-within, rounds-within}
 use Rattle.meaning.proofs.Building.{greatest-in, greatest, step-bears, build-within}
 
 -- ---- a running number outside the limit implies the guard
@@ -46,20 +45,8 @@ module _ (q : Campaign) where
       let rules = each-map (λ r. startSize r + ahead (greatest q) r 0 (q .sets) ≤ limit) (λ z. z ≤ limit) (ruleSize q) (λ r l. omega (arith, ahead-sizes q r 0 (q .sets))) (q .rules) (e .1) in
       ap not (each-every (λ z. leb z limit) (λ z. z ≤ limit) (λ z. le-leb z limit) guarding (cost, rules))
 
-pub within-size : (m : ℕ) (z : ℤ) → Within m z → size m z ≡ true
-within-size m z h =
-    let low : leZ (negℤ (pos m)) z ≡ true = omega (zarith, neg (pos m), parts z, h .size) in
-    let high : leZ z (pos m) ≡ true = omega (zarith, parts z, h .size) in
-    and-both (leZ (negℤ (pos m)) z) (leZ z (pos m)) low high
-
-pub size-within : (m : ℕ) (z : ℤ) → size m z ≡ true → Within m z
-size-within m z e =
-    let low = and-l (leZ (negℤ (pos m)) z) (leZ z (pos m)) e in
-    let high = and-r (leZ (negℤ (pos m)) z) (leZ z (pos m)) e in
-    record { size = omega (zarith, neg (pos m), parts z) }
-
 none-leaves : (zs : List ℤ) → Each (Within limit) zs → leaves zs ≡ false
-none-leaves zs h = ap not (each-every (size limit) (Within limit) (within-size limit) zs h)
+none-leaves zs h = ap not (each-size limit zs h)
 
 -- all numbers of an operation, whichever builder
 pub guarded : (b : Builder) (q : Campaign) (w n : ℕ) (c : ℤ) → guard q ≡ false → leaves (buildNumbers b q w ++ roundNumbers c q n (built b q w)) ≡ false
@@ -84,6 +71,10 @@ greatest-le : (m : ℕ) (f : ℕ → ℤ) (l : List ℕ) → Each (λ v. Within 
 greatest-le m f [] h = omega arith
 greatest-le m f (v ∷ l) h = omega (arith, h .0 .size, greatest-le m f l (h .1))
 
+summed-within : (m : ℕ) (f : ℕ → ℕ → ℤ) → ((i v : ℕ) → v < stepCount → Within m (f i v)) → (i : ℕ) (v : List ℕ) → Each (λ u. u < stepCount) v → Within (length v * m) (summed f i v)
+summed-within m f b i [] h = record { size = omega arith }
+summed-within m f b i (u ∷ v) h = added (omega arith) (b i u (h .0)) (summed-within m f b (suc i) v (h .1))
+
 -- the bound of a slot: the greatest size over some of the first steps
 module _ (few : ℕ → List ℕ) (below : (P : ℕ → Type 0) → ((v : ℕ) → v < stepCount → P v) → (s : ℕ) → Each P (few s)) where
   abbrev mostOver : Rule → ℕ → ℕ → ℕ
@@ -105,16 +96,13 @@ pub record LeavesRoom (f : Format) : Type 0 where
   pub sums : f .sumLead + mostSlots * (f .coefficient * (stepCount - 1)) ≤ limit
 
 -- "weight times step", "coefficient times v"
-weighed-within : (m : ℕ) (c : List ℤ) → every (size m) c ≡ true → (i v : ℕ) → v < stepCount → Within (m * (stepCount - 1)) (weighed c i v)
-weighed-within m c e i v l =
-    mul-within (each-at (Within m) c i (pos 0) (record { size = omega arith }) (every-each (size m) (Within m) (size-within m) c e)) (omega arith)
+weighed-within : (m : ℕ) (c : List ℤ) → Each (Within m) c → (i v : ℕ) → v < stepCount → Within (m * (stepCount - 1)) (weighed c i v)
+weighed-within m c h i v l = mul-within (each-at (Within m) c i (pos 0) (record { size = omega arith }) h) (omega arith)
 
 module _ (f : Format) (l : LeavesRoom f) (n : ℕ) (few : n ≤ mostSlots) where
-  terms-room : (t : Terms) (lb ub z : ℤ) → rightTerms f n t ≡ true → rightLead f t z ≡ true → HasRoom n (record { share = shareOf t; lb = lb; ub = ub; start = z })
+  terms-room : (t : Terms) (lb ub z : ℤ) → RightTerms f n t → RightLead f t z → HasRoom n (record { share = shareOf t; lb = lb; ub = ub; start = z })
   terms-room (among s t) lb ub z e h =
-      let low = and-l (leZ (pos 0) z) (leZ z (pos (f .amongLead))) h in
-      let high = and-r (leZ (pos 0) z) (leZ z (pos (f .amongLead))) h in
-      let lead : natAbs z ≤ f .amongLead = omega (zarith, parts z) in
+      let lead = rising-within (f .amongLead) z h .size in
       record {
         most = 1;
         shares = λ i v k. either (bit s v && bit t i) (record { size = omega arith }) (record { size = omega arith });
@@ -122,24 +110,21 @@ module _ (f : Format) (l : LeavesRoom f) (n : ℕ) (few : n ≤ mostSlots) where
       }
   terms-room (sums c) lb ub z e h =
       let m = f .coefficient * (stepCount - 1) in
-      let lead = size-within (f .sumLead) z h .size in
+      let lead = h .size in
       record { most = m; shares = weighed-within (f .coefficient) c e; room = omega (arith, l .sums, mul-le-mul-right m few) }
 
-  rule-room : (r : Said) → rightRule f n r ≡ true → HasRoom n (ruleOf r)
-  rule-room r e =
-      let fields = rightTerms f n (r .terms) && size (f .bound) (r .lb) && size (f .bound) (r .ub) && leZ (r .lb) (r .ub) in
-      let lead = rightLead f (r .terms) (r .lead) in
-      terms-room (r .terms) (r .lb) (r .ub) (r .lead) (and-l _ _ (and-l _ _ (and-l _ _ (and-l fields lead e)))) (and-r fields lead e)
+  rule-room : (r : Said) → RightFields f n r → HasRoom n (ruleOf r)
+  rule-room r h = terms-room (r .terms) (r .lb) (r .ub) (r .lead) (h .terms) (h .lead)
 
 module _ (f : Format) (l : LeavesRoom f) (p : Problem) (e : inRange f p ≡ true) where
   problem-room : Each (HasRoom (length (p .sets))) (counted (campaign p))
   problem-room =
       let n = length (p .sets) in
       let right = in-range f p e in
-      let few = leb-true n mostSlots (and-r (leb 1 n) (leb n mostSlots) (and-l (leb 1 n && leb n mostSlots) (leb (length (p .rules)) mostRules) (right .head))) in
+      let few = right .head .most in
       let m = f .weight * (stepCount - 1) in
       let weights = weighed-within (f .weight) (p .weights) (right .weights) in
-      let rules = every-each (rightRule f n) (λ r. HasRoom n (ruleOf r)) (rule-room f l n few) (p .rules) (right .rules) in
+      let rules = each-more (RightFields f n) (λ r. HasRoom n (ruleOf r)) (rule-room f l n few) (p .rules) (right .rules) in
       (record { most = m; shares = weights; room = omega (arith, l .costs, mul-le-mul-right m few) }, each-map (λ r. HasRoom n (ruleOf r)) (HasRoom n) ruleOf (λ r h. h) (p .rules) rules)
 
   pub format-unguarded : guard (campaign p) ≡ false
@@ -154,6 +139,16 @@ module _ (f : Format) (l : LeavesRoom f) (p : Problem) (e : inRange f p ≡ true
       arcs-within q g limit (p .sets) a
       (arcs-more (λ i s v. v < stepCount) (Bears q g) (λ i s v b. each-of (λ r. Within (g r i s) (r .share i v)) (λ r. greatest-in (r .share i) (rw zero-add at (in-from 0 stepCount v b))) (counted q)) 0 (p .sets) a a (fewer-refl a) (arcs-below stepCount 0 (p .sets) a k h))
       (rules-room (λ s. from 0 stepCount) (λ P t s. each-from P 0 stepCount t) (p .sets) (counted q) problem-room)
+
+  -- what any steps add up to, as a walk carries them: each rule's total and the cost, of no more steps than there are slots
+  pub format-plans : (i : ℕ) (v : List ℕ) → Each (λ u. u < stepCount) v → length v ≤ length (p .sets) → Each (λ r. Within limit (r .start +ℤ total r i v)) (counted (campaign p))
+  format-plans i v h k = each-more (HasRoom (length (p .sets))) (λ r. Within limit (r .start +ℤ total r i v)) one (counted (campaign p)) problem-room
+    where
+      one : (r : Rule) → HasRoom (length (p .sets)) r → Within limit (r .start +ℤ total r i v)
+      one r m =
+          let fits : startSize r + length v * m .most ≤ limit = omega (arith, m .room, mul-le-mul-right (m .most) k) in
+          let starts : Within (startSize r) (r .start) = record { size = omega arith } in
+          added fits starts (summed-within (m .most) (r .share) (m .shares) i v h)
 
 -- ---- version 1
 version1-room : LeavesRoom version1

@@ -1,20 +1,21 @@
 -- Does the reader give each number exactly when its row stands?
 use mathlib.Core.Path.{_≡_, refl, sym, ap, _∙_, subst}
 use mathlib.Core.List.{List, [], _∷_, map}
-use mathlib.Core.Bool.{Bool, true, false, _&&_, cond, true≢false}
+use mathlib.Core.Bool.{Bool, true, false, cond, true≢false}
 use Prim.Native.Nat.{ℕ, zero, suc, _+_, _*_, _≤_, _<_}
 use native.Mathlib.Nat.{add-zero}
 use native.Mathlib.Omega.{arith}
 use lib.Dec.{eqb, leb}
 use lib.ListN.{length, take, drop}
 use lib.Seq.{take-take, take-add, drop-at, getD-take, length-take-le}
-use borrow.Author.Tests.{not-false, eqb-true, eqb-false, ne-eqb, leb-true, leb-false, le-leb, lt-leb}
+use borrow.Author.Tests.{eqb-true, eqb-false, ne-eqb, leb-true, leb-false, le-leb, lt-leb}
 use Rattle.laws.specs.Lists.{every, parted, same}
-use Rattle.laws.proofs.Lists.{In, and-l, and-r, no-true}
+use Rattle.laws.proofs.Lists.{no-true}
 use Rattle.laws.proofs.Parts.{same-true, same-yes, same-no, Fails, fails, every-no, in-no}
-use Rattle.meaning.specs.Problem.{Said, Problem, Format, version1, size, mostSlots, mostRules, rightHead, rightSet, rightRule}
+use Rattle.meaning.specs.Problem.{Said, Problem, Format, version1, size, rightHead, rightSet, rightRule}
 use Rattle.meaning.specs.File.{little, signed, Got, refused, got, Reader, onward, gives, part, fieldsNext, checked, refuses, amongBody, sumBody, bodyNext, kindNext, rulesNext, mark, formatNext, problemNext, ended, readOf}
-use Rattle.meaning.proofs.Table.{Known, known1, slotCount, ruleCount, HeadRange, setsIn, behindSets, weightsIn, behindWeights, problemIn, HeadRight, SetsRight, WeightsRight, Kind, kind-among, kind-sum, Rules, no-rules, rule-first, RulesRight, Row, head-ends, mark-wrong, version-wrong, head-wrong, sets-end, set-zero, weights-end, weight-wrong, kind-ends, kind-wrong, body-ends, field-wrong, bytes-left, Accepted, accepted}
+use Rattle.meaning.proofs.Faultless.{HeadRange, range-test, test-range, zero-in, nonzero-test, test-nonzero, RightFields, fields-test, test-fields, within-size, size-within, each-size, size-each}
+use Rattle.meaning.proofs.Table.{Known, known1, slotCount, ruleCount, setsIn, behindSets, weightsIn, behindWeights, problemIn, HeadRight, SetsRight, WeightsRight, Kind, kind-among, kind-sum, Rules, no-rules, rule-first, RulesRight, Row, head-ends, mark-wrong, version-wrong, head-wrong, sets-end, set-zero, weights-end, weight-wrong, kind-ends, kind-wrong, body-ends, field-wrong, bytes-left, Accepted, accepted}
 
 -- ---- one step of a reader
 -- the next k bytes are there or not
@@ -51,19 +52,21 @@ data Fault (f : Format) (n : ℕ) : ℕ → List ℕ → Type 0 where
   no-kind : Fault f n 1 []
   no-body : {k l : ℕ} {g : List ℕ → Said} {t : List ℕ} → Kind f n k l g → length t < l → Fault f n 1 (k ∷ t)
   another-kind : {k : ℕ} {t : List ℕ} → (k ≡ 1 → ⊥) → (k ≡ 2 → ⊥) → Fault f n 6 (k ∷ t)
-  wrong-field : {k l : ℕ} {g : List ℕ → Said} {t : List ℕ} → Kind f n k l g → l ≤ length t → rightRule f n (g (take l t)) ≡ false → Fault f n 6 (k ∷ t)
+  wrong-field : {k l : ℕ} {g : List ℕ → Said} {t : List ℕ} → Kind f n k l g → l ≤ length t → (RightFields f n (g (take l t)) → ⊥) → Fault f n 6 (k ∷ t)
 
 module _ (f : Format) (n : ℕ) where
   -- a rule behind its kind byte is right or not
   module _ {A : Type 0} (P : Got A → Type 0) (k : ℕ) (t : List ℕ) (r : Said → Reader A)
       (wrong : (e : ℕ) → Fault f n e (k ∷ t) → P (refused e))
-      (right : (l : ℕ) (g : List ℕ → Said) → Kind f n k l g → l ≤ length t → rightRule f n (g (take l t)) ≡ true → P (r (g (take l t)) (drop l t))) where
+      (right : (l : ℕ) (g : List ℕ → Said) → Kind f n k l g → l ≤ length t → RightFields f n (g (take l t)) → P (r (g (take l t)) (drop l t))) where
     body-cases : (m : ℕ) (g : List ℕ → Said) → Kind f n k (m + 8 + f .leadBytes) g → P (onward (bodyNext f n m g t) r)
     body-cases m g d =
         let l = m + 8 + f .leadBytes in
         part-cases (λ (x : Got Said). P (onward x r)) l t _
         (λ h. wrong 1 (no-body d h))
-        (λ h. test-cases (λ (x : Got Said). P (onward x r)) 6 (rightRule f n (g (take l t))) (drop l t) _ (λ e. wrong 6 (wrong-field d h e)) (λ e. right l g d h e))
+        (λ h. test-cases (λ (x : Got Said). P (onward x r)) 6 (rightRule f n (g (take l t))) (drop l t) _
+        (λ e. wrong 6 (wrong-field d h (λ w. true≢false (sym (fields-test f n (g (take l t)) w) ∙ e))))
+        (λ e. right l g d h (test-fields f n (g (take l t)) e)))
 
     rule-cases : P (onward (kindNext f n k t) r)
     rule-cases = go (eqb k 1) (eqb k 2) refl refl
@@ -88,7 +91,7 @@ module _ (f : Format) (n : ℕ) where
       (λ e w. stopped {j = 0} (omega arith) no-rules w)
       (λ l g d h e. next (rulesNext f n m (drop l t)) d h e (rules-outcome m (drop l t))))
     where
-      next : {l : ℕ} {g : List ℕ → Said} (x : Got (List Said)) → Kind f n k l g → l ≤ length t → rightRule f n (g (take l t)) ≡ true
+      next : {l : ℕ} {g : List ℕ → Said} (x : Got (List Said)) → Kind f n k l g → l ≤ length t → RightFields f n (g (take l t))
           → RulesOutcome m (drop l t) x → RulesOutcome (suc m) (k ∷ t) (onward x (λ rs. gives (g (take l t) ∷ rs)))
       next x d h e (stopped {j = j} b rs w) = stopped {j = suc j} (omega arith) (rule-first d h e rs) w
       next x d h e (done rs) = done (rule-first d h e rs)
@@ -99,15 +102,16 @@ module _ (f : Format) (n : ℕ) where
   body-read t kind-among = refl
   body-read t kind-sum = refl
 
-  rule-read : {k l : ℕ} {g : List ℕ → Said} (t : List ℕ) (m : ℕ) → Kind f n k l g → l ≤ length t → rightRule f n (g (take l t)) ≡ true
+  rule-read : {k l : ℕ} {g : List ℕ → Said} (t : List ℕ) (m : ℕ) → Kind f n k l g → l ≤ length t → RightFields f n (g (take l t))
       → rulesNext f n (suc m) (k ∷ t) ≡ onward (rulesNext f n m (drop l t)) (λ rs. gives (g (take l t) ∷ rs))
-  rule-read {k} {l} t m d h e = rw (le-leb 1 (suc (length t)) (omega arith), add-zero k, body-read t d, le-leb l (length t) h, e)
+  rule-read {k} {l} {g} t m d h e = rw (le-leb 1 (suc (length t)) (omega arith), add-zero k, body-read t d, le-leb l (length t) h, fields-test f n (g (take l t)) e)
 
   fault-read : {k : ℕ} {t : List ℕ} (m : ℕ) → Fault f n k t → rulesNext f n (suc m) t ≡ refused k
   fault-read m no-kind = refl
   fault-read m (no-body {k = k} {l = l} {t = t} d h) = rw (le-leb 1 (suc (length t)) (omega arith), add-zero k, body-read t d, lt-leb l (length t) h)
   fault-read m (another-kind {k = k} {t = t} a b) = rw (le-leb 1 (suc (length t)) (omega arith), add-zero k, ne-eqb k 1 a, ne-eqb k 2 b)
-  fault-read m (wrong-field {k = k} {l = l} {t = t} d h e) = rw (le-leb 1 (suc (length t)) (omega arith), add-zero k, body-read t d, le-leb l (length t) h, e)
+  fault-read m (wrong-field {k = k} {l = l} {g = g} {t = t} d h e) =
+      rw (le-leb 1 (suc (length t)) (omega arith), add-zero k, body-read t d, le-leb l (length t) h, no-true (rightRule f n (g (take l t))) (λ w. e (test-fields f n (g (take l t)) w)))
 
   rules-read : {m : ℕ} {t u : List ℕ} {rs : List Said} → Rules f n m t rs u → rulesNext f n m t ≡ got rs u
   rules-read no-rules = refl
@@ -119,14 +123,6 @@ module _ (f : Format) (n : ℕ) where
   rules-stop (suc m) h (rule-first {t = t} d b e rs) w = rule-read t m d b e ∙ rw (rules-stop m (omega arith) rs w)
 
 -- ---- reading the head
-pub range-test : {n m : ℕ} → HeadRange n m → rightHead n m ≡ true
-range-test {n} {m} h = rw (le-leb 1 n (h .some), le-leb n mostSlots (h .most), le-leb m mostRules (h .rules))
-
-pub test-range : (n m : ℕ) → rightHead n m ≡ true → HeadRange n m
-test-range n m e =
-    let a = and-l (leb 1 n && leb n mostSlots) (leb m mostRules) e in
-    record { some = leb-true 1 n (and-l (leb 1 n) (leb n mostSlots) a); most = leb-true n mostSlots (and-r (leb 1 n) (leb n mostSlots) a); rules = leb-true m mostRules (and-r (leb 1 n && leb n mostSlots) (leb m mostRules) e) }
-
 format-read : {f : Format} {v : ℕ} (s : List ℕ) → Known f → v ≡ f .version → formatNext v s ≡ got f s
 format-read s known1 e = rw e
 
@@ -154,10 +150,14 @@ module _ (s : List ℕ) where
   weights-there : (f : Format) → slotCount s * 4 ≤ length (behindSets s f) → leb (slotCount s * 4) (length (behindSets s f)) ≡ true
   weights-there f h = le-leb (slotCount s * 4) (length (behindSets s f)) h
 
+  -- and the step sets pass their test
+  sets-right : (f : Format) → SetsRight s f → every rightSet (setsIn s f) ≡ true
+  sets-right f r = nonzero-test (setsIn s f) (r .allowing)
+
   right-weights : (f : Format) → WeightsRight s f
       → readOf s ≡ onward (rulesNext f (slotCount s) (ruleCount s) (behindWeights s f)) (λ rs u. onward (ended u) (λ v. gives (problemIn s f rs)))
   right-weights f r =
-      right-head (r .sets .head) ∙ rw (range-test (r .sets .head .range), sets-there f (r .sets .complete), r .sets .allowing, weights-there f (r .complete), r .range)
+      right-head (r .sets .head) ∙ rw (range-test (r .sets .head .range), sets-there f (r .sets .complete), sets-right f (r .sets), weights-there f (r .complete), each-size (f .weight) (weightsIn s f) (r .range))
 
   fault-number : {f : Format} {j k : ℕ} {rs : List Said} {t : List ℕ} → RulesRight s f j rs t → j < ruleCount s → Fault f (slotCount s) k t → readOf s ≡ refused k
   fault-number {f} r h w = right-weights f (r .weights) ∙ rw (rules-stop f (slotCount s) (ruleCount s) h (r .rules) w)
@@ -171,9 +171,9 @@ module _ (s : List ℕ) where
   row-read (sets-end {f = f} r h) = right-head r ∙ rw (range-test (r .range), lt-leb (slotCount s * f .setBytes) (length (drop 7 s)) h)
   row-read (set-zero {f = f} r c i) = right-head r ∙ rw (range-test (r .range), sets-there f c, in-no rightSet i refl)
   row-read (weights-end {f = f} r h) =
-      right-head (r .head) ∙ rw (range-test (r .head .range), sets-there f (r .complete), r .allowing, lt-leb (slotCount s * 4) (length (behindSets s f)) h)
-  row-read (weight-wrong {f = f} r c i h) =
-      right-head (r .head) ∙ rw (range-test (r .head .range), sets-there f (r .complete), r .allowing, weights-there f c, in-no (size (f .weight)) i h)
+      right-head (r .head) ∙ rw (range-test (r .head .range), sets-there f (r .complete), sets-right f r, lt-leb (slotCount s * 4) (length (behindSets s f)) h)
+  row-read (weight-wrong {f = f} {w = w} r c i h) =
+      right-head (r .head) ∙ rw (range-test (r .head .range), sets-there f (r .complete), sets-right f r, weights-there f c, in-no (size (f .weight)) i (no-true (size (f .weight) w) (λ e. h (size-within (f .weight) w e))))
   row-read (kind-ends r h) = fault-number r h no-kind
   row-read (kind-wrong r h a b) = fault-number r h (another-kind a b)
   row-read (body-ends r h d l) = fault-number r h (no-body d l)
@@ -186,7 +186,7 @@ module _ (s : List ℕ) where
   -- ---- every file is right or has its row
   pub data Outcome : Got Problem → Type 0 where
     refusal : {k : ℕ} → Row s k → Outcome (refused k)
-    right : {f : Format} {rs : List Said} → RulesRight s f (ruleCount s) rs [] → Outcome (got (problemIn s f rs) [])
+    right : {p : Problem} → Accepted s p → Outcome (got p [])
 
   fault-row : {f : Format} {j k : ℕ} {rs : List Said} {t : List ℕ} → RulesRight s f j rs t → j < ruleCount s → Fault f (slotCount s) k t → Row s k
   fault-row r h no-kind = kind-ends r h
@@ -197,14 +197,11 @@ module _ (s : List ℕ) where
   after-rules : {f : Format} (x : Got (List Said)) → WeightsRight s f → RulesOutcome f (slotCount s) (ruleCount s) (behindWeights s f) x
       → Outcome (onward x (λ rs u. onward (ended u) (λ v. gives (problemIn s f rs))))
   after-rules x w (stopped h rs e) = refusal (fault-row (record { weights = w; rules = rs }) h e)
-  after-rules x w (done {u = []} rs) = right (record { weights = w; rules = rs })
+  after-rules x w (done {u = []} rs) = right (accepted (record { weights = w; rules = rs }))
   after-rules x w (done {u = b ∷ u} rs) = rw (ne-eqb (suc (length u)) 0 (omega arith)) (refusal (bytes-left (record { weights = w; rules = rs }) (omega arith)))
 
-  zero-in : {l : List ℕ} → Fails rightSet l → In 0 l
-  zero-in {l} (fails {x = x} i e) = subst (λ (y : ℕ). In y l) (eqb-true x 0 (not-false (eqb x 0) e)) i
-
   weight-row : {f : Format} → SetsRight s f → slotCount s * 4 ≤ length (behindSets s f) → Fails (size (f .weight)) (weightsIn s f) → Row s 5
-  weight-row r c (fails i e) = weight-wrong r c i e
+  weight-row {f} r c (fails {x = w} i e) = weight-wrong r c i (λ h. true≢false (sym (within-size (f .weight) w h) ∙ e))
 
   behind-version : {f : Format} → 7 ≤ length s → take 3 s ≡ mark → Known f → little (take 2 (drop 3 s)) ≡ f .version
       → Outcome (problemNext f (slotCount s) (ruleCount s) (drop 7 s))
@@ -219,13 +216,13 @@ module _ (s : List ℕ) where
       test-cases Outcome 5 (every rightSet (setsIn s f)) (behindSets s f) _
       (λ q. refusal (set-zero h d (zero-in (every-no rightSet (setsIn s f) q))))
       (λ q.
-      let r : SetsRight s f = record { head = h; complete = d; allowing = q } in
+      let r : SetsRight s f = record { head = h; complete = d; allowing = test-nonzero (setsIn s f) q } in
       fields-cases Outcome (slotCount s) 4 (signed 4) (behindSets s f) _
       (λ l. refusal (weights-end r l))
       (λ b.
       test-cases Outcome 5 (every (size (f .weight)) (weightsIn s f)) (behindWeights s f) _
       (λ w. refusal (weight-row r b (every-no (size (f .weight)) (weightsIn s f) w)))
-      (λ w. after-rules _ (record { sets = r; complete = b; range = w }) (rules-outcome f (slotCount s) (ruleCount s) (behindWeights s f)))))))
+      (λ w. after-rules _ (record { sets = r; complete = b; range = size-each (f .weight) (weightsIn s f) w }) (rules-outcome f (slotCount s) (ruleCount s) (behindWeights s f)))))))
 
   pub outcome : Outcome (readOf s)
   outcome =
@@ -265,6 +262,10 @@ refused-exactly s k = (λ e. only (readOf s) (outcome s) e, row-read s)
     only x (refusal r) e = subst (Row s) (ap number e) r
     only x (right r) e = absurd (true≢false (ap accepts e))
 
+-- the numbers exclude each other
+pub row-one : (s : List ℕ) (j k : ℕ) → Row s j → Row s k → j ≡ k
+row-one s j k a b = ap number (sym (row-read s a) ∙ row-read s b)
+
 -- no other number is given
 pub refused-range : (s : List ℕ) (k : ℕ) → readOf s ≡ refused k → (1 ≤ k) × (k ≤ 7)
 refused-range s k e = row-range (refused-exactly s k .0 e)
@@ -290,7 +291,7 @@ accepted-when s p t = (λ e. only (readOf s) (outcome s) e, whole p)
   where
     only : (x : Got Problem) → Outcome s x → x ≡ got p t → Accepted s p × (t ≡ [])
     only x (refusal r) e = absurd (true≢false (sym (ap accepts e)))
-    only x (right r) e = (subst (Accepted s) (ap (value p) e) (accepted r), sym (ap left e))
+    only x (right r) e = (subst (Accepted s) (ap (value p) e) r, sym (ap left e))
 
     whole : (q : Problem) → Accepted s q → readOf s ≡ got q []
     whole q (accepted r) = right-read s r

@@ -2,22 +2,24 @@
 use mathlib.Core.Path.{_≡_, refl, sym, ap, _∙_}
 use mathlib.Core.List.{List, [], _∷_, _++_, map, append-assoc}
 use mathlib.Core.Bool.{true, _&&_}
-use Prim.Native.Nat.{ℕ, suc, _+_, _*_, _/_, _^_, _≤_, _<_}
-use native.Mathlib.Nat.{div-lt-iff-lt-mul, one-le-pow, pow-le-pow-right}
+use Prim.Native.Nat.{ℕ, suc, _+_, _*_, _^_, _≤_, _<_}
+use native.Mathlib.Nat.{pow-le-pow-right}
 use native.Mathlib.Omega.{arith}
-use borrow.Author.Tests.{eqb-true, lt-ltb}
-use lib.Dec.{eqb, ltb}
+use borrow.Author.Tests.{lt-ltb}
+use lib.Dec.{eqb}
 use lib.ListN.{length, take, drop, take-append-drop, length-append, length-drop}
 use lib.Seq.{take-at, drop-at, drop-drop, take-add, length-take-le}
 use lib.IntN.{ℤ}
-use lib.Signed.{leZ}
+use Rattle.laws.specs.Z.{Within}
 use Rattle.laws.specs.Lists.{every, gather, parted}
-use Rattle.laws.proofs.Lists.{and-l, and-r, and-both, every-append, every-more}
+use Rattle.laws.proofs.Lists.{and-l, and-r, and-both, every-append}
 use Rattle.laws.proofs.Parts.{Code, code-fields, parted-append, parted-take, every-take, every-drop}
-use Rattle.meaning.specs.Problem.{Terms, among, sums, Said, Format, size, rightTerms, rightLead, rightRule, holdsTerms}
+use Rattle.laws.proofs.Each.{Each, each-every}
+use Rattle.meaning.specs.Problem.{Terms, among, sums, Said, Format, holdsTerms}
 use Rattle.meaning.specs.File.{little, signed, saidOf, bytes, signedBytes, termBytes, ruleBytes}
+use Rattle.meaning.proofs.Faultless.{rising-within, RightLead, RightFields}
 use Rattle.meaning.proofs.Table.{Kind, kind-among, kind-sum, Rules, no-rules, rule-first}
-use Rattle.meaning.proofs.Bytes.{isByte, fits, code-little, code-signed, size-fits, size-rising}
+use Rattle.meaning.proofs.Bytes.{isByte, fits, code-little, code-signed, within-fits}
 
 -- each number of the format fits its bytes
 pub record Roomy (f : Format) : Type 0 where
@@ -104,14 +106,14 @@ module _ (f : Format) where
         (and-r (every (fits 2) c) (eqb (length c) n) (coefficients .fits (take (n * 2) b) (length-take-le (n * 2) b (omega arith)) (every-take isByte (n * 2) b e)))
 
     -- rules that were read are in range, and the bytes that they were read from are theirs
-    pub record Read (j : ℕ) (t : List ℕ) (rs : List Said) (u : List ℕ) : Type 0 where
+    pub record RulesWhole (j : ℕ) (t : List ℕ) (rs : List Said) (u : List ℕ) : Type 0 where
       pub count : length rs ≡ j
-      pub right : every (rightRule f n) rs ≡ true
+      pub right : Each (RightFields f n) rs
       pub held : every (λ (r : Said). holdsTerms f n (r .terms)) rs ≡ true
       pub whole : t ≡ gather (ruleBytes f) rs ++ u
 
-    pub rules-write : {j : ℕ} {t u : List ℕ} {rs : List Said} → Rules f n j t rs u → every isByte t ≡ true → Read j t rs u
-    rules-write no-rules e = record { count = refl; right = refl; held = refl; whole = refl }
+    pub rules-write : {j : ℕ} {t u : List ℕ} {rs : List Said} → Rules f n j t rs u → every isByte t ≡ true → RulesWhole j t rs u
+    rules-write no-rules e = record { count = refl; right = tt; held = refl; whole = refl }
     rules-write (rule-first {k = k} {l = l} {g = g} {t = t} {u = u} {rs = rs} d h q r) e =
         let b = take l t in
         let m = length-take-le l t h in
@@ -120,7 +122,7 @@ module _ (f : Format) where
         let o = rules-write r (every-drop isByte l t i) in
         record {
           count = ap suc (o .count);
-          right = and-both (rightRule f n (g b)) (every (rightRule f n) rs) q (o .right);
+          right = (q, o .right);
           held = and-both (holdsTerms f n (g b .terms)) (every (λ (x : Said). holdsTerms f n (x .terms)) rs) (rule-holds b d m w) (o .held);
           whole =
               let rest = gather (ruleBytes f) rs in
@@ -145,51 +147,27 @@ module _ (f : Format) where
           code-signed (f .leadBytes) .long z c,
         )
 
-    -- bits at n and above zero: it fits in 32
-    slots-fit : (t : ℕ) → n ≤ 32 → eqb (t / 2 ^ n) 0 ≡ true → ltb t (256 ^ 4) ≡ true
-    slots-fit t h e =
-        let z = eqb-true (t / 2 ^ n) 0 e in
-        let b : t < 1 * 2 ^ n = div-lt-iff-lt-mul {k = 2 ^ n} {x = t} {y = 1} (one-le-pow n 2 (omega arith)) .0 (omega arith) in
-        lt-ltb t (256 ^ 4) (omega (arith, pow-le-pow-right {n = 2} (omega arith) h))
-
     module _ (room : Roomy f) (most : n ≤ 32) where
-      lead-fits : (t : Terms) (z : ℤ) → rightLead f t z ≡ true → fits (f .leadBytes) z ≡ true
-      lead-fits (among s t) z e = size-fits (f .leadBytes) (f .amongLead) (room .amongLead) z (size-rising (f .amongLead) z e)
-      lead-fits (sums c) z e = size-fits (f .leadBytes) (f .sumLead) (room .sumLead) z e
+      lead-fits : (t : Terms) (z : ℤ) → RightLead f t z → fits (f .leadBytes) z ≡ true
+      lead-fits (among s t) z h = within-fits (f .leadBytes) (f .amongLead) (room .amongLead) z (rising-within (f .amongLead) z h)
+      lead-fits (sums c) z h = within-fits (f .leadBytes) (f .sumLead) (room .sumLead) z h
 
-      record Fields (t : Terms) (l u z : ℤ) : Type 0 where
-        terms : rightTerms f n t ≡ true
-        low : fits 4 l ≡ true
-        high : fits 4 u ≡ true
-        lead : fits (f .leadBytes) z ≡ true
+      bound-fits : (z : ℤ) → Within (f .bound) z → fits 4 z ≡ true
+      bound-fits z h = within-fits 4 (f .bound) (room .bound) z h
 
-      fields : (t : Terms) (l u z : ℤ) → rightRule f n (said t l u z) ≡ true → Fields t l u z
-      fields t l u z e =
-          let a = rightTerms f n t in
-          let b = size (f .bound) l in
-          let c = size (f .bound) u in
-          let d = leZ l u in
-          let abcd = and-l (a && b && c && d) (rightLead f t z) e in
-          let abc = and-l (a && b && c) d abcd in
-          let ab = and-l (a && b) c abc in
-          record {
-            terms = and-l a b ab;
-            low = size-fits 4 (f .bound) (room .bound) l (and-r a b ab);
-            high = size-fits 4 (f .bound) (room .bound) u (and-r (a && b) c abc);
-            lead = lead-fits t z (and-r (a && b && c && d) (rightLead f t z) e);
-          }
-
-      rule-written : (t : Terms) (l u z : ℤ) → rightRule f n (said t l u z) ≡ true → holdsTerms f n t ≡ true → Written (said t l u z)
-      rule-written (among s t) l u z e h =
-          let q = fields (among s t) l u z e in
+      rule-written : (t : Terms) (l u z : ℤ) → RightFields f n (said t l u z) → holdsTerms f n t ≡ true → Written (said t l u z)
+      rule-written (among s t) l u z q h =
+          let low = bound-fits l (q .low) in
+          let high = bound-fits u (q .high) in
+          let lead = lead-fits (among s t) z (q .lead) in
           let k = f .setBytes in
           let a = bytes k s in
           let b = bytes 4 t in
           let c = bounds l u z in
-          let fit = slots-fit t most (q .terms) in
+          let fit = lt-ltb t (256 ^ 4) (omega (arith, q .terms, pow-le-pow-right {n = 2} (omega arith) most)) in
           let m = code-little k .long s h in
           written (a ++ (b ++ c)) kind-among
-          (omega (arith, length-append a (b ++ c), length-append b c, bounds-long l u z (q .low) (q .high) (q .lead)))
+          (omega (arith, length-append a (b ++ c), length-append b c, bounds-long l u z low high lead))
           (rw (
             ← drop-drop 4 k (a ++ (b ++ c)),
             take-at a (b ++ c) k m,
@@ -197,20 +175,22 @@ module _ (f : Format) where
             code-little k .reads s h,
             code-little 4 .reads t fit,
           )
-          (bounds-read (among s t) l u z (q .low) (q .high) (q .lead)))
+          (bounds-read (among s t) l u z low high lead))
           (ap (λ (x : List ℕ). 1 ∷ x) (right-nested (a ++ b) (signedBytes 4 l) (signedBytes 4 u) (signedBytes (f .leadBytes) z) ∙ append-assoc a b c))
-      rule-written (sums c) l u z e h =
-          let q = fields (sums c) l u z e in
+      rule-written (sums c) l u z q h =
+          let low = bound-fits l (q .low) in
+          let high = bound-fits u (q .high) in
+          let lead = lead-fits (sums c) z (q .lead) in
           let a = gather (signedBytes 2) c in
           let b = bounds l u z in
-          let fit = and-both (every (fits 2) c) (eqb (length c) n) (every-more (size (f .coefficient)) (fits 2) (size-fits 2 (f .coefficient) (room .coefficient)) c (q .terms)) h in
+          let fit = and-both (every (fits 2) c) (eqb (length c) n) (each-every (fits 2) (Within (f .coefficient)) (within-fits 2 (f .coefficient) (room .coefficient)) c (q .terms)) h in
           let m = coefficients .long c fit in
           written (a ++ b) kind-sum
-          (omega (arith, length-append a b, bounds-long l u z (q .low) (q .high) (q .lead)))
-          (rw (parted-append n 2 a b (omega arith), drop-at a b (n * 2) m, coefficients .reads c fit) (bounds-read (sums c) l u z (q .low) (q .high) (q .lead)))
+          (omega (arith, length-append a b, bounds-long l u z low high lead))
+          (rw (parted-append n 2 a b (omega arith), drop-at a b (n * 2) m, coefficients .reads c fit) (bounds-read (sums c) l u z low high lead))
           (ap (λ (x : List ℕ). 2 ∷ x) (right-nested a (signedBytes 4 l) (signedBytes 4 u) (signedBytes (f .leadBytes) z)))
 
-      rule-front : {k l j : ℕ} {g : List ℕ → Said} {u : List ℕ} {rs : List Said} (b t : List ℕ) → Kind f n k l g → length b ≡ l → rightRule f n (g b) ≡ true
+      rule-front : {k l j : ℕ} {g : List ℕ → Said} {u : List ℕ} {rs : List Said} (b t : List ℕ) → Kind f n k l g → length b ≡ l → RightFields f n (g b)
           → Rules f n j t rs u → Rules f n (suc j) (k ∷ (b ++ t)) (g b ∷ rs) u
       rule-front {k} {l} {j} {g} {u} {rs} b t d m e r =
           let x = take-at b t l m in
@@ -218,17 +198,16 @@ module _ (f : Format) where
           rw x at (rule-first {t = b ++ t} d (omega (arith, length-append b t)) (rw x e) w)
 
       -- rules in range, written and read again
-      pub rules-read-again : (rs : List Said) (u : List ℕ) → every (rightRule f n) rs ≡ true → every (λ (r : Said). holdsTerms f n (r .terms)) rs ≡ true
+      pub rules-read-again : (rs : List Said) (u : List ℕ) → Each (RightFields f n) rs → every (λ (r : Said). holdsTerms f n (r .terms)) rs ≡ true
           → Rules f n (length rs) (gather (ruleBytes f) rs ++ u) rs u
       rules-read-again [] u e h = no-rules
       rules-read-again (r ∷ rs) u e h =
-          let a = and-l (rightRule f n r) (every (rightRule f n) rs) e in
           let b = and-l (holdsTerms f n (r .terms)) (every (λ (x : Said). holdsTerms f n (x .terms)) rs) h in
-          go (rule-written (r .terms) (r .lb) (r .ub) (r .lead) a b)
-          a
-          (rules-read-again rs u (and-r (rightRule f n r) (every (rightRule f n) rs) e) (and-r (holdsTerms f n (r .terms)) (every (λ (x : Said). holdsTerms f n (x .terms)) rs) h))
+          go (rule-written (r .terms) (r .lb) (r .ub) (r .lead) (e .0) b)
+          (e .0)
+          (rules-read-again rs u (e .1) (and-r (holdsTerms f n (r .terms)) (every (λ (x : Said). holdsTerms f n (x .terms)) rs) h))
         where
-          go : Written r → rightRule f n r ≡ true → Rules f n (length rs) (gather (ruleBytes f) rs ++ u) rs u
+          go : Written r → RightFields f n r → Rules f n (length rs) (gather (ruleBytes f) rs ++ u) rs u
               → Rules f n (suc (length rs)) (ruleBytes f r ++ gather (ruleBytes f) rs ++ u) (r ∷ rs) u
           go (written b d m q w) a t =
               let rest = gather (ruleBytes f) rs in
