@@ -154,17 +154,6 @@ module _ {A : Type 0} where
       go true h = omega arith
       go false h = omega arith
 
-  -- what a test that all pass implies, all pass
-  pub every-more : (f g : A → Bool) → ((x : A) → f x ≡ true → g x ≡ true) → (l : List A) → every f l ≡ true → every g l ≡ true
-  every-more f g h [] e = refl
-  every-more f g h (x ∷ l) e = and-both (g x) (every g l) (h x (and-l (f x) (every f l) e)) (every-more f g h l (and-r (f x) (every f l) e))
-
-  -- what two tests that all pass imply, all pass
-  pub every-so : (f g h : A → Bool) → ((x : A) → f x ≡ true → g x ≡ true → h x ≡ true) → (l : List A) → every f l ≡ true → every g l ≡ true → every h l ≡ true
-  every-so f g h k [] e d = refl
-  every-so f g h k (x ∷ l) e d =
-      and-both (h x) (every h l) (k x (and-l (f x) (every f l) e) (and-l (g x) (every g l) d)) (every-so f g h k l (and-r (f x) (every f l) e) (and-r (g x) (every g l) d))
-
   -- a test that implies another one finds the same behind it
   pub keep-keep : (f g : A → Bool) → ((x : A) → f x ≡ true → g x ≡ true) → (l : List A) → keep f l ≡ keep f (keep g l)
   keep-keep f g h [] = refl
@@ -203,6 +192,10 @@ module _ {A : Type 0} where
   pub every-in : (f : A → Bool) {v : A} (l : List A) → every f l ≡ true → In v l → f v ≡ true
   every-in f (x ∷ l) e here = and-l (f x) (every f l) e
   every-in f (x ∷ l) e (there i) = every-in f l (and-r (f x) (every f l) e) i
+
+  pub in-every : (f : A → Bool) (l : List A) → ((x : A) → In x l → f x ≡ true) → every f l ≡ true
+  in-every f [] h = refl
+  in-every f (x ∷ l) h = and-both (f x) (every f l) (h x here) (in-every f l (λ y i. h y (there i)))
 
   -- tests that agree on all that is there keep the same
   pub keep-agree : (f g : A → Bool) (l : List A) → ((x : A) → In x l → f x ≡ g x) → keep f l ≡ keep g l

@@ -15,7 +15,7 @@ use Rattle.meaning.specs.Diagram.{Arcs, relaxed, restricted, isExact}
 use Rattle.meaning.specs.Filter.{relaxedArcs}
 use Rattle.meaning.specs.Bound.{paths, isPath, dual, shown, primal, least}
 use Rattle.meaning.specs.Buffers.{arcBytes, arcsIn, ofForm}
-use Rattle.meaning.specs.Page.{listed, walked, drawn}
+use Rattle.meaning.specs.Page.{listed, walked, drawn, ending}
 use Rattle.meaning.specs.File.{got, readOf, bytesOf}
 use Rattle.meaning.specs.Running.{guard}
 use Rattle.meaning.specs.Calls.{Judged, Bound, Lent, Done, Choice, emptyStart, standing, new, read, judge, better, relaxedOf, relaxedCall, restrictedCall, pageCall}
@@ -123,13 +123,16 @@ fileC =
     82 ∷ 84 ∷ 80 ∷ 1 ∷ 0 ∷ 4 ∷ 1 ∷ 3 ∷ 3 ∷ 3 ∷ 3 ∷ 2 ∷ 0 ∷ 0 ∷ 0 ∷ 253 ∷ 255 ∷ 255 ∷ 255 ∷ 4 ∷ 0 ∷ 0 ∷ 0 ∷ 6 ∷ 0 ∷ 0 ∷ 0
     ∷ 2 ∷ 2 ∷ 0 ∷ 3 ∷ 0 ∷ 5 ∷ 0 ∷ 5 ∷ 0 ∷ 7 ∷ 0 ∷ 0 ∷ 0 ∷ 15 ∷ 0 ∷ 0 ∷ 0 ∷ []
 
--- one slot: "ceiling 29,999 and one round: dual none"; no round drops nothing; "a plan that costs exactly the ceiling stays". C in pages of three
+-- one slot: "ceiling 29,999 and one round: dual none"; no round drops nothing; "a plan that costs exactly the ceiling stays".
+-- C in pages of three: all ten plans; the fourth page says that there is no more, and no page before it
 abbrev further : List Bool
 further =
     says (dual one 1 1 (pos 29999)) none
     ∷ says (dual one 1 0 (pos 29999)) (some (pos 30000))
     ∷ says (dual one 1 1 (pos 30000)) (some (pos 30000))
     ∷ arePlans (drawn (replicate 4 3) C (pos limit) []) (lawfuls C)
+    ∷ ending (replicate 4 3) C (pos limit) []
+    ∷ not (ending (replicate 3 3) C (pos limit) [])
     ∷ []
 
 pub further-hold : (holds further ≡ true) × (readOf fileC ≡ got problemC [])

@@ -1,8 +1,8 @@
 -- Do pages in sequence list every lawful plan within the ceiling, once, in order?
 -- The list of plans stands strictly in dictionary order; a page's last plan leaves exactly what stands behind the page.
-use mathlib.Core.Path.{_≡_, refl, _∙_, ap}
+use mathlib.Core.Path.{_≡_, refl, sym, _∙_, ap}
 use mathlib.Core.List.{List, [], _∷_, _++_, map, append-nil}
-use mathlib.Core.Bool.{Bool, true, false, cond}
+use mathlib.Core.Bool.{Bool, true, false, true≢false, cond}
 use Prim.Native.Nat.{ℕ, zero, suc, _≤_, _<_}
 use native.Mathlib.Omega.{arith}
 use lib.Dec.{ltb}
@@ -13,7 +13,7 @@ use lib.IntN.{ℤ}
 use lib.Signed.{leZ}
 use Rattle.laws.specs.Z.{zarith}
 use Rattle.laws.specs.Lists.{keep, every, lastOr}
-use Rattle.laws.proofs.Lists.{and-l, and-r, and-both, and-true, In, in-keep, in-kept, every-append, every-keep, every-kept, every-more, every-so, every-in, keep-every, keep-length, keep-keep, keep-swap, keep-agree, last-passes, Ordered, ordered-keep}
+use Rattle.laws.proofs.Lists.{and-l, and-r, and-both, and-true, In, in-keep, in-kept, every-append, every-keep, every-kept, every-in, in-every, keep-every, keep-length, keep-keep, keep-swap, keep-agree, last-passes, Ordered, ordered-keep}
 use Rattle.meaning.specs.Plan.{Campaign, slots, stepsOf, plans, lawful, lawfuls, cost, after}
 use Rattle.meaning.specs.Diagram.{Arcs}
 use Rattle.meaning.specs.Filter.{relaxedArcs}
@@ -78,19 +78,17 @@ module _ (q : Campaign) (c : ℤ) where
       go (p ∷ l) e (suc k) =
           let x = lastOr p (take k l) in
           let all : every (wanted q c s) (p ∷ l) ≡ true = rw e at (every-kept (wanted q c s) (lawfuls q)) in
-          let within = every-more (wanted q c s) cheap (λ r h. and-l (cheap r) (after s r) h) (p ∷ l) all in
+          let within = in-every cheap (p ∷ l) (λ r i. and-l (cheap r) (after s r) (every-in (wanted q c s) (p ∷ l) all i)) in
           let on : wanted q c s x ≡ true = last-passes (wanted q c s) p l k (and-l (wanted q c s p) (every (wanted q c s) l) all) (and-r (wanted q c s p) (every (wanted q c s) l) all) in
           let order : Ordered after (p ∷ l) = rw e at (listed-ordered q c s) in
           keep-keep (wanted q c x) (wanted q c s)
           (λ r h. and-both (cheap r) (after s r) (and-l (cheap r) (after x r) h) (after-trans s x r (and-r (cheap x) (after s x) on) (and-r (cheap r) (after x r) h))) (lawfuls q)
           ∙ ap (keep (wanted q c x)) e ∙ keep-agree (wanted q c x) (after x) (p ∷ l) (λ r i. rw (every-in cheap (p ∷ l) within i)) ∙ behind p l k order
 
-  -- pages with any room, drawn one after another, list what stands after the start, and one of them says that there is no more;
-  -- as many pages as plans are enough, and at least one
-  pub drawn-all : (rooms : List ℕ) (s : List ℕ) → every (ltb 0) rooms ≡ true → 0 < length rooms → length (listed q c s) ≤ length rooms
-      → (drawn rooms q c s ≡ listed q c s) × (ending rooms q c s ≡ true)
-  drawn-all [] s f n h = absurd (omega arith)
-  drawn-all (k ∷ ks) s f n h = go (ltb k (length (listed q c s))) refl (λ t. drawn-all ks t (and-r (ltb 0 k) (every (ltb 0) ks) f))
+  -- pages with any rooms: if one of them says that there is no more, they list all that stands after the start
+  pub ended-all : (rooms : List ℕ) (s : List ℕ) → ending rooms q c s ≡ true → drawn rooms q c s ≡ listed q c s
+  ended-all [] s e = absurd (true≢false (sym e))
+  ended-all (k ∷ ks) s e = go (ltb k (length (listed q c s))) refl (ended-all ks (lastOr s (take k (listed q c s)))) e
     where
       l : List (List ℕ)
       l = listed q c s
@@ -98,21 +96,40 @@ module _ (q : Campaign) (c : ℤ) where
       x : List ℕ
       x = lastOr s (take k l)
 
-      go : (b : Bool) → ltb k (length l) ≡ b → ((t : List ℕ) → 0 < length ks → length (listed q c t) ≤ length ks → (drawn ks q c t ≡ listed q c t) × (ending ks q c t ≡ true))
-          → (take k l ++ cond b (drawn ks q c x) [] ≡ l) × (cond b (ending ks q c x) true ≡ true)
+      go : (b : Bool) → ltb k (length l) ≡ b → (ending ks q c x ≡ true → drawn ks q c x ≡ listed q c x) → cond b (ending ks q c x) true ≡ true
+          → take k l ++ cond b (drawn ks q c x) [] ≡ l
+      go true f r e = ap (λ (m : List (List ℕ)). take k l ++ m) (r e ∙ next-listed s k) ∙ take-append-drop k l
+      go false f r e = append-nil (take k l) ∙ take-all k l (ltb-false k (length l) f)
+
+  -- and one of them does: as many pages as plans are enough, and at least one
+  drawn-ends : (rooms : List ℕ) (s : List ℕ) → every (ltb 0) rooms ≡ true → 0 < length rooms → length (listed q c s) ≤ length rooms → ending rooms q c s ≡ true
+  drawn-ends [] s f n h = absurd (omega arith)
+  drawn-ends (k ∷ ks) s f n h = go (ltb k (length (listed q c s))) refl (drawn-ends ks x (and-r (ltb 0 k) (every (ltb 0) ks) f))
+    where
+      x : List ℕ
+      x = lastOr s (take k (listed q c s))
+
+      go : (b : Bool) → ltb k (length (listed q c s)) ≡ b → (0 < length ks → length (listed q c x) ≤ length ks → ending ks q c x ≡ true) → cond b (ending ks q c x) true ≡ true
       go true e r =
           let some = ltb-true 0 k (and-l (ltb 0 k) (every (ltb 0) ks) f) in
-          let left = ltb-true k (length l) e in
-          let both = r x (omega arith) (rw (next-listed s k, length-drop) (omega arith)) in
-          (ap (λ (m : List (List ℕ)). take k l ++ m) (both .0 ∙ next-listed s k) ∙ take-append-drop k l, both .1)
-      go false e r = (append-nil (take k l) ∙ take-all k l (ltb-false k (length l) e), refl)
+          let left = ltb-true k (length (listed q c s)) e in
+          r (omega arith) (rw (next-listed s k, length-drop) (omega arith))
+      go false e r = refl
 
--- from the beginning they list all lawful plans within the ceiling
+  pub drawn-all : (rooms : List ℕ) (s : List ℕ) → every (ltb 0) rooms ≡ true → 0 < length rooms → length (listed q c s) ≤ length rooms
+      → (drawn rooms q c s ≡ listed q c s) × (ending rooms q c s ≡ true)
+  drawn-all rooms s f n h = let e = drawn-ends rooms s f n h in (ended-all rooms s e, e)
+
+-- from the beginning: until one says there is no more, all lawful plans within the ceiling
+pub pages-ended : (q : Campaign) (c : ℤ) (rooms : List ℕ) → 0 < slots q → ending rooms q c [] ≡ true → drawn rooms q c [] ≡ keep (λ p. leZ (cost q p) c) (lawfuls q)
+pages-ended q c rooms s e = ended-all q c rooms [] e ∙ listed-all q c s
+
+-- and the sequence ends
 pub pages-all : (q : Campaign) (c : ℤ) (rooms : List ℕ) → 0 < slots q → every (ltb 0) rooms ≡ true → 0 < length rooms → length (lawfuls q) ≤ length rooms
     → (drawn rooms q c [] ≡ keep (λ p. leZ (cost q p) c) (lawfuls q)) × (ending rooms q c [] ≡ true)
 pages-all q c rooms s f n h =
-    let both = drawn-all q c rooms [] f n (omega (arith, keep-length (wanted q c []) (lawfuls q))) in
-    (both .0 ∙ listed-all q c s, both .1)
+    let e = drawn-ends q c rooms [] f n (omega (arith, keep-length (wanted q c []) (lawfuls q))) in
+    (pages-ended q c rooms s e, e)
 
 -- ---- pages of paths
 -- of the paths of any arcs, the lawful ones within the ceiling after the start are those that the walk finds
@@ -125,8 +142,7 @@ walked-relaxed : (q : Campaign) (w n : ℕ) (c : ℤ) (s : List ℕ) → 0 < w �
 walked-relaxed q w n c s hw =
     let a = relaxedArcs q w n c in
     keep-every (isPath a) (listed q c s)
-    (every-so (wanted q c s) (lawful q) (isPath a) (λ p f g. kept q w n c p g (let d = and-l (leZ (cost q p) c) (after s p) f in omega zarith) hw) (listed q c s)
-    (every-kept (wanted q c s) (lawfuls q)) (every-keep (lawful q) (wanted q c s) (lawfuls q) (every-kept (lawful q) (plans (q .steps) (q .sets)))))
+    (in-every (isPath a) (listed q c s) (λ p i. let b = listed-are q c s p i in kept q w n c p (b .0) (let d = and-l (leZ (cost q p) c) (after s p) (b .1) in omega zarith) hw))
 
 pub page-of-plans : (q : Campaign) (w n : ℕ) (c : ℤ) (s : List ℕ) → 0 < w → keep (wanted q c s) (keep (lawful q) (paths q (relaxedArcs q w n c))) ≡ listed q c s
 page-of-plans q w n c s hw = walked-paths q (relaxedArcs q w n c) c s ∙ walked-relaxed q w n c s hw
