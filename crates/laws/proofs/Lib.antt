@@ -2,3 +2,5 @@
 pub mod Lists
 pub mod Each
 pub mod Parts
+pub mod Left
+pub mod Filled

@@ -89,12 +89,13 @@ shortPlan q l = ltb (length (l .plan)) (slots q)
 
 -- ---- reading
 -- a refusal's problem has no entry
+abbrev pub readAnswer : Got Problem → Read
+readAnswer (refused k) = record { number = k; problem = record { sets = []; weights = []; rules = [] } }
+readAnswer (got p s) = record { number = 0; problem = p }
+
+-- any bytes
 abbrev pub read : List ℕ → Read
-read f = answer (readOf f)
-  where
-    answer : Got Problem → Read
-    answer (refused k) = record { number = k; problem = record { sets = []; weights = []; rules = [] } }
-    answer (got p s) = record { number = 0; problem = p }
+read f = readAnswer (readOf f)
 
 -- ---- the judge: "lawful exactly if the length is n, each step is allowed and every rule holds; the cost goes with it, and 0 if unlawful"
 abbrev pub judged : Campaign → List ℕ → Judged
