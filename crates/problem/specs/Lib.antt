@@ -1,0 +1,2 @@
+-- What the struct means.
+pub mod Held
