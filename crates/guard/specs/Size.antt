@@ -1,0 +1,20 @@
+-- What is the size of a share, and the greatest over a slot's steps?
+use mathlib.Core.Path.{_≡_}
+use mathlib.Core.List.{List}
+use Prim.Native.Nat.{ℕ, _≤_}
+use lib.ListN.{getD}
+use lib.IntN.{ℤ, pos, natAbs}
+use Rattle.meaning.specs.Plan.{stepsOf}
+use Rattle.meaning.specs.Problem.{stepCount, shareOf}
+use Rattle.meaning.specs.Running.{greatestSize}
+use Rattle.problem.specs.Held.{termsOf}
+
+-- of the share of whatever coefficients have this one at slot i; seven times 2,147,483,648 bounds it
+pub record ShareSize (kind values slots : ℕ) (coef : ℤ) (i v r : ℕ) : Type 0 where
+  pub is : (c : List ℤ) → getD c i (pos 0) ≡ coef → r ≡ natAbs (shareOf (termsOf kind values slots c) i v)
+  pub most : r ≤ 15032385536
+
+-- over the steps of a set
+pub record GreatestSize (kind values slots : ℕ) (coef : ℤ) (i set r : ℕ) : Type 0 where
+  pub is : (c : List ℤ) → getD c i (pos 0) ≡ coef → r ≡ greatestSize (shareOf (termsOf kind values slots c) i) (stepsOf stepCount set)
+  pub most : r ≤ 15032385536

@@ -1,0 +1,104 @@
+// The guard on running numbers: one test of the problem alone.
+ghost use mathlib.Core.Path.{_≡_};
+ghost use mathlib.Core.List.{[], _∷_};
+ghost use Prim.Native.Nat.{_+_, _≤_, _<_};
+ghost use lib.IntN.{natAbs};
+ghost use lib.ListN.{length, take, drop};
+ghost use Rattle.meaning.specs.Problem.{stepCount, shareOf, firstFault};
+ghost use Rattle.meaning.specs.Running.{sizes, guard};
+ghost use Rattle.problem.specs.Held.{termsOf, campaignOf};
+ghost use Rattle.guard.specs.Size.{ShareSize, GreatestSize};
+use problem::Problem;
+use problem::STEPS;
+
+// The distance of z from 0.
+pub fn size_of(z: i32) -> u64
+    ensures { λ r. ⌜ (r ≡ natAbs z) × (r ≤ 2147483648) ⌝ }
+{
+    if z < 0 { (!z) as u64 + 1 } else { z as u64 }
+}
+
+// The size of a rule's share of slot i and step v.
+fn share_size(kind: u8, values: u16, slots: u32, coef: i32, i: usize, v: usize) -> u64
+    requires { ⌜ (i < 24) × (v < 8) ⌝ }
+    ensures { λ r. ⌜ ShareSize kind values slots coef i v r ⌝ }
+{
+    match kind {
+        1 => {
+            if (values >> v) % 2 == 1 {
+                if (slots >> i) % 2 == 1 {
+                    return 1;
+                }
+            }
+            0
+        }
+        2 => size_of(coef) * (v as u64),
+        _ => 0,
+    }
+}
+
+// The greatest over the steps of the slot's set.
+fn greatest_size(kind: u8, values: u16, slots: u32, coef: i32, i: usize, set: u16) -> u64
+    requires { ⌜ i < 24 ⌝ }
+    ensures { λ r. ⌜ GreatestSize kind values slots coef i set r ⌝ }
+{
+    let mut most: u64 = 0;
+    let mut v: usize = 0;
+    while v < STEPS {
+        if problem::allows(set, v) {
+            let z = share_size(kind, values, slots, coef, i, v);
+            if most < z {
+                most = z;
+            }
+        }
+        v += 1;
+    }
+    most
+}
+
+// The sum over the n slots. The coefficients stand from `at` on.
+fn slot_sizes<'a>(
+    n: usize,
+    kind: u8,
+    values: u16,
+    slots: u32,
+    coefs: &'a [i32],
+    at: usize,
+    sets: &'a [u16],
+) -> u64
+    requires { ⌜ (n ≤ 24) × (at + n ≤ length (now coefs)) × (n ≤ length (now sets)) ⌝ }
+    ensures { λ r. ⌜ r ≡ sizes stepCount (shareOf (termsOf kind values slots (take n (drop at (now (coefs .entry)))))) 0 (take n (now (sets .entry))) ⌝ }
+{
+    let mut sum: u64 = 0;
+    let mut i: usize = 0;
+    while i < n {
+        let c = coefs[at + i];
+        let set = sets[i];
+        sum += greatest_size(kind, values, slots, c, i, set);
+        i += 1;
+    }
+    sum
+}
+
+// 9 where the sum over the slots of the greatest size of a cost, or for some rule of a share, is above 2,000,000, else 0.
+pub fn guard_of(p: Problem) -> u32
+    requires { ⌜ (p .n ≤ 24) × (p .m ≤ 8) ⌝ }
+    ensures { λ r. ⌜ r ≡ firstFault ((9, guard (campaignOf p)) ∷ []) ⌝ }
+{
+    let n = p.n;
+    // a price is the share of a sum rule whose coefficients are the weights
+    if 2000000 < slot_sizes(n, 2, 0, 0, &p.weights, 0, &p.sets) {
+        return 9;
+    }
+    let mut k: usize = 0;
+    while k < p.m {
+        let kind = p.kinds[k];
+        let values = p.values[k];
+        let slots = p.slots[k];
+        if 2000000 < slot_sizes(n, kind, values, slots, &p.coefs, k * 24, &p.sets) {
+            return 9;
+        }
+        k += 1;
+    }
+    0
+}
