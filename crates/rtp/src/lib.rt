@@ -12,6 +12,9 @@ ghost use Rattle.meaning.specs.Calls.{readAnswer, read};
 ghost use Rattle.rtp.specs.Reading.{twosOf, ruleNext, AmongTold, RuleTold, RulesTold, readAs};
 use problem::Problem;
 
+// The letters that a plan file begins with.
+pub const MARK: [u8; 3] = *b"RTP";
+
 // What a plan file says: number 0 and the problem, or the number of its first fault and a problem that is all zero.
 pub struct Reading {
     pub number: u32,
@@ -105,14 +108,13 @@ fn is_marked(s: &[u8]) -> bool
     requires { ⌜ 7 ≤ length (now s) ⌝ }
     ensures { λ r. ⌜ r ≡ same (take 3 (now (s .entry))) mark ⌝ }
 {
-    let mark = b"RTP";
-    if s[0] != mark[0] {
+    if s[0] != MARK[0] {
         return false;
     }
-    if s[1] != mark[1] {
+    if s[1] != MARK[1] {
         return false;
     }
-    if s[2] != mark[2] {
+    if s[2] != MARK[2] {
         return false;
     }
     true

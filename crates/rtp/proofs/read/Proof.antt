@@ -21,7 +21,7 @@ refused-requires : tie.Need-refused-requires
 refused-requires c κs = search needs
 
 returns : tie.Need-returns
-returns c = told-as (c .refused .ensures) (head-short (c .before .before .before .args .s .now) (c .before .if1 .taken))
+returns c = told-as (c .refused .ensures) (head-short (c .before .before .before .args .s .now) (omega arith))
 
 is-marked-requires : tie.Need-is-marked-requires
 is-marked-requires c κs = search needs
@@ -32,7 +32,7 @@ refused-requires-2 c κs = search needs
 returns-2 : tie.Need-returns-2
 returns-2 c =
     let no = sym (c .before .before .is-marked .ensures) ∙ not-true _ (c .before .if2 .taken) in
-    told-as (c .refused2 .ensures) (mark-wrong (c .before .before .before .before .before .args .s .now) (c .before .before .before .if1 .left) no)
+    told-as (c .refused2 .ensures) (mark-wrong (c .before .before .before .before .before .args .s .now) (omega arith) no)
 
 short-requires : tie.Need-short-requires
 short-requires c κs = search needs
@@ -43,7 +43,7 @@ refused-requires-3 c κs = search needs
 returns-3 : tie.Need-returns-3
 returns-3 c =
     let m = c .before .before .before .before in
-    told-as (c .refused3 .ensures) (version-wrong (c .before .before .before .before .before .before .before .before .args .s .now) (m .before .before .if1 .left) (marked m) (λ z. c .before .if3 .taken (c .before .before .before .short .ensures .0 ∙ z)))
+    told-as (c .refused3 .ensures) (version-wrong (c .before .before .before .before .before .before .before .before .args .s .now) (omega arith) (marked m) (λ z. c .before .if3 .taken (c .before .before .before .short .ensures .0 ∙ z)))
 
 byte-requires : tie.Need-byte-requires
 byte-requires c κs = search needs
@@ -68,7 +68,7 @@ returns-4 c =
     let on : c .before .before .before .before .byte .result .next .at ≡ 6 = omega arith in
     let rules : c .before .count2 .result ≡ getD s 6 0 = c .before .count2 .ensures ∙ c .before .before .before .byte2 .ensures .0 ∙ ap (λ (k : ℕ). little (take 1 (drop k s))) on ∙ one-byte s 6 (omega arith) in
     let end : c .before .before .before .byte2 .result .next .at ≡ 7 = omega arith in
-    told-as (c .problem .ensures) (head-read s (m .before .before .if1 .left) (marked m) (sym (c .before .before .before .before .before .before .before .short .ensures .0) ∙ c .before .before .before .before .before .if3 .left) ∙ sym (same-place s slots rules end))
+    told-as (c .problem .ensures) (head-read s (omega arith) (marked m) (sym (c .before .before .before .before .before .before .before .short .ensures .0) ∙ c .before .before .before .before .before .if3 .left) ∙ sym (same-place s slots rules end))
 
 pub read-spec : {M : Type 1} → statement M
 read-spec =

@@ -240,7 +240,7 @@ returns-7 c =
     let v = a .before .before .before .before .before .before in
     let w = a .before in
     let g = told-read (AreRules a) (rules-in a) (rules-told a) (c .before .before .before .if6 .left) in
-    let more : length (g .rest) ≡ 0 → ⊥ = λ z. c .before .if7 .taken (omega (arith, length-drop (a .rules .result .next .at) (file p), ap length (g .holds .next))) in
+    let more : length (g .rest) ≡ 0 → ⊥ = λ z. omega (arith, c .before .if7 .taken, c .before .before .left3 .ensures, length-drop (a .rules .result .next .at) (file p), ap length (g .holds .next)) in
     told-as (c .refused7 .ensures) (bytes-left (n p) (m p) (bytes p) (head-right p) (sets-there q) (sets-right r) (weights-there v) (weights-right w) (g .is) more)
 
 returns-8 : tie.Need-returns-8
