@@ -6,7 +6,7 @@ use Prim.Native.Nat.{ℕ, _+_, _*_, _-_, _/_, _^_, _≤_, _<_}
 use native.Mathlib.Omega.{arith}
 use borrow.Author.Tests.{le-leb, lt-leb, ne-eqb}
 use lib.Dec.{eqb}
-use lib.ListN.{length, getD, take, drop, length-take, length-drop, drop-of-length-le}
+use lib.ListN.{length, take, drop, length-take, length-drop, drop-of-length-le}
 use lib.IntN.{ℤ, pos}
 use lib.Seq.{drop-drop, take-take}
 use Rattle.laws.specs.Lists.{every, parted}
@@ -16,7 +16,6 @@ use Rattle.meaning.specs.Problem.{Said, Terms, among, sums, version1, size, rig
 use Rattle.meaning.specs.File.{Got, refused, got, little, signed, saidOf, amongBody, sumBody, bodyNext, kindNext}
 use Rattle.rtp.specs.Reading.{ruleNext}
 use Rattle.problem.specs.Held.{ruleSaid}
-use Rattle.rtp.proofs.Fields.{one-byte}
 use Rattle.problem.proofs.Rules.{rightBounds, rule-parts}
 
 -- ---- any body of k bytes and the bounds
@@ -105,24 +104,20 @@ module _ (n : ℕ) (b : List ℕ) where
     pub sum-right : sumTest ≡ true → sumNext ≡ got sumSaid (drop (n * 2 + 8) b)
     sum-right e = body-right n (n * 2) (sumBody version1 n) b h (sum-tested ∙ e) ∙ ap (λ (x : Said). got x (drop (n * 2 + 8) b)) sum-is
 
--- ---- a rule at a place of the file: the kind byte decides what follows
+-- ---- a rule: the kind byte decides what follows
 module _ (n : ℕ) (s : List ℕ) (at : ℕ) where
-  pub no-kind : length s ≤ at → ruleNext n (drop at s) ≡ refused 1
-  no-kind h =
-      let none : length (drop at s) < 1 = omega (arith, length-drop at s) in
-      rw (lt-leb 1 (length (drop at s)) none) refl
+  pub no-kind : length s - at < 1 → ruleNext n (drop at s) ≡ refused 1
+  no-kind h = rw (lt-leb 1 (length (drop at s)) (omega (arith, length-drop at s))) refl
 
-  module _ (h : at < length s) where
-    kind-is : ruleNext n (drop at s) ≡ kindNext version1 n (getD s at 0) (drop (at + 1) s)
-    kind-is =
-        let some : 1 ≤ length (drop at s) = omega (arith, length-drop at s) in
-        rw (le-leb 1 (length (drop at s)) some, drop-drop 1 at s, one-byte s at (omega arith)) refl
+  module _ {kind on : ℕ} (h : 1 ≤ length s - at) (is : kind ≡ little (take 1 (drop at s))) (next : on ≡ at + 1) where
+    kind-is : ruleNext n (drop at s) ≡ kindNext version1 n kind (drop on s)
+    kind-is = rw (is, next, le-leb 1 (length (drop at s)) (omega (arith, length-drop at s)), drop-drop 1 at s) refl
 
-    pub among-kind : getD s at 0 ≡ 1 → ruleNext n (drop at s) ≡ bodyNext version1 n 5 (amongBody version1) (drop (at + 1) s)
+    pub among-kind : kind ≡ 1 → ruleNext n (drop at s) ≡ bodyNext version1 n 5 (amongBody version1) (drop on s)
     among-kind e = kind-is ∙ rw e refl
 
-    pub sum-kind : getD s at 0 ≡ 2 → ruleNext n (drop at s) ≡ bodyNext version1 n (n * 2) (sumBody version1 n) (drop (at + 1) s)
+    pub sum-kind : kind ≡ 2 → ruleNext n (drop at s) ≡ bodyNext version1 n (n * 2) (sumBody version1 n) (drop on s)
     sum-kind e = kind-is ∙ rw e refl
 
-    pub other-kind : (getD s at 0 ≡ 1 → ⊥) → (getD s at 0 ≡ 2 → ⊥) → ruleNext n (drop at s) ≡ refused 6
-    other-kind f g = kind-is ∙ rw (ne-eqb (getD s at 0) 1 f, ne-eqb (getD s at 0) 2 g) refl
+    pub other-kind : (kind ≡ 1 → ⊥) → (kind ≡ 2 → ⊥) → ruleNext n (drop at s) ≡ refused 6
+    other-kind f g = kind-is ∙ rw (ne-eqb kind 1 f, ne-eqb kind 2 g) refl

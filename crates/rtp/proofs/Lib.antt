@@ -1,5 +1,5 @@
 -- Laws that the functions' proofs cite.
-pub mod Fields
+pub mod Mark
 pub mod Bodies
 pub mod Rules
 pub mod Whole

@@ -1,11 +1,9 @@
 -- What does the code of the reader hand back, in the words of the definition?
 use mathlib.Core.Path.{_≡_}
 use mathlib.Core.List.{List}
-use mathlib.Core.Bool.{cond}
-use Prim.Native.Nat.{ℕ, _+_, _-_, _≤_}
-use lib.Dec.{ltb}
+use Prim.Native.Nat.{ℕ, _≤_}
 use lib.ListN.{length, drop}
-use lib.IntN.{ℤ, pos, negsuc}
+use lib.IntN.{ℤ, pos}
 use lib.Seq.{paste}
 use Rattle.meaning.specs.Problem.{Said, version1}
 use Rattle.meaning.specs.File.{Got, refused, got, Reader, _>>=_, little, part, kindNext}
@@ -14,10 +12,6 @@ use Rattle.problem.specs.Held.{kindOf, valuesOf, slotsOf, coefsOf, eachRule, ro
 use Rattle.rtp.specs.declared.RuleAt.{RuleAt}
 use Rattle.rtp.specs.declared.RulesAt.{RulesAt}
 use Rattle.rtp.specs.declared.Reading.{Reading}
-
--- "two's complement", where half is half of what the bytes hold
-abbrev pub twosOf : ℕ → ℕ → ℤ
-twosOf half u = cond (ltb u half) (pos u) (negsuc (half + (half - 1) - u))
 
 -- a refusal's number, or 0 and what was read
 abbrev pub Told : {A : Type 0} → (A → List ℕ → Type 0) → ℕ → Got A → Type 0

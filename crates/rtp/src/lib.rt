@@ -1,15 +1,13 @@
 // The reader of plan files: a cursor by value, the first fault in file order, or the problem by value.
 ghost use mathlib.Core.Path.{_≡_};
-ghost use mathlib.Core.List.{map};
-ghost use Prim.Native.Nat.{_+_, _-_, _*_, _≤_, _<_};
-ghost use lib.IntN.{pos};
+ghost use Prim.Native.Nat.{_+_, _*_, _≤_};
 ghost use lib.ListN.{length, take, drop};
-ghost use lib.Seq.{paste};
-ghost use Rattle.laws.specs.Lists.{same, parted, padded};
+ghost use Rattle.laws.specs.Lists.{same};
 ghost use Rattle.meaning.specs.Problem.{version1};
-ghost use Rattle.meaning.specs.File.{refused, little, signed, mark, problemNext, rulesNext, bodyNext, amongBody, sumBody};
+ghost use Rattle.meaning.specs.File.{refused, mark, problemNext, rulesNext, bodyNext, amongBody, sumBody};
 ghost use Rattle.meaning.specs.Calls.{readAnswer, read};
-ghost use Rattle.rtp.specs.Reading.{twosOf, ruleNext, AmongTold, RuleTold, RulesTold, readAs};
+ghost use Rattle.rtp.specs.Reading.{ruleNext, AmongTold, RuleTold, RulesTold, readAs};
+use cursor::Cursor;
 use problem::Problem;
 
 // The letters that a plan file begins with.
@@ -19,36 +17,6 @@ pub const MARK: [u8; 3] = *b"RTP";
 pub struct Reading {
     pub number: u32,
     pub problem: Problem,
-}
-
-// A place in the file. Each method hands back what stands there with the next place.
-pub struct Cursor {
-    pub at: usize,
-}
-
-pub struct ByteAt {
-    pub value: u8,
-    pub next: Cursor,
-}
-
-pub struct WordAt {
-    pub value: u32,
-    pub next: Cursor,
-}
-
-pub struct IntAt {
-    pub value: i32,
-    pub next: Cursor,
-}
-
-pub struct SetsAt {
-    pub value: [u16; 24],
-    pub next: Cursor,
-}
-
-pub struct WeightsAt {
-    pub value: [i32; 24],
-    pub next: Cursor,
 }
 
 // A rule's fields beside its coefficients, which go to the lent table.
@@ -73,34 +41,10 @@ pub struct RulesAt {
     pub next: Cursor,
 }
 
-fn wide(b: u8) -> u32
-    ensures { λ r. ⌜ (r ≡ b) × (r < 256) ⌝ }
-{
-    b as u32
-}
-
 fn count(b: u8) -> usize
     ensures { λ r. ⌜ r ≡ b ⌝ }
 {
     b as usize
-}
-
-fn set_of(b: u8) -> u16
-    ensures { λ r. ⌜ r ≡ b ⌝ }
-{
-    b as u16
-}
-
-// Two's complement, where `half` is half of what the bytes hold.
-fn twos(u: u32, half: u32) -> i32
-    requires { ⌜ (u < 2 * half) × (1 ≤ half) × (half ≤ 2147483648) ⌝ }
-    ensures { λ r. ⌜ r ≡ twosOf half u ⌝ }
-{
-    if u < half {
-        u as i32
-    } else {
-        !((half + (half - 1) - u) as i32)
-    }
 }
 
 // The file begins with the mark.
@@ -154,317 +98,181 @@ fn refused(k: u32) -> Reading
     }
 }
 
-impl Cursor {
-    // How many bytes stand from here on.
-    fn left(self, s: &[u8]) -> usize
-        ensures { λ r. ⌜ r ≡ length (now (s .entry)) - self .at ⌝ }
-    {
-        let at = self.at;
-        if s.len() < at { 0 } else { s.len() - at }
+// The body of an among rule: S, the slots, lb and ub.
+fn among(place: Cursor, s: &[u8], n: usize) -> RuleAt
+    requires { ⌜ n ≤ 24 ⌝ }
+    ensures { λ r. ⌜ AmongTold (now (s .entry)) (bodyNext version1 n 5 (amongBody version1) (drop (place .at) (now (s .entry)))) r ⌝ }
+{
+    if place.left(s) < 13 {
+        return refused_rule(1);
     }
-
-    fn byte(self, s: &[u8]) -> ByteAt
-        requires { ⌜ self .at + 1 ≤ length (now s) ⌝ }
-        ensures { λ r. ⌜ (r .value ≡ little (take 1 (drop (self .at) (now (s .entry))))) × (r .next .at ≡ self .at + 1) ⌝ }
-    {
-        let at = self.at;
-        ByteAt {
-            value: s[at],
-            next: Cursor { at: at + 1 },
-        }
+    let values = place.set(s);
+    let slots = values.next.word(s);
+    let lb = slots.next.int(s);
+    let ub = lb.next.int(s);
+    if !problem::slots_are_right(slots.value, n) {
+        return refused_rule(6);
     }
-
-    // Two bytes.
-    fn short(self, s: &[u8]) -> WordAt
-        requires { ⌜ self .at + 2 ≤ length (now s) ⌝ }
-        ensures { λ r. ⌜ (r .value ≡ little (take 2 (drop (self .at) (now (s .entry))))) × (r .value < 65536) × (r .next .at ≡ self .at + 2) ⌝ }
-    {
-        let at = self.at;
-        WordAt {
-            value: wide(s[at]) + 256 * wide(s[at + 1]),
-            next: Cursor { at: at + 2 },
-        }
+    if !problem::bounds_are_right(lb.value, ub.value) {
+        return refused_rule(6);
     }
-
-    // Four bytes.
-    fn word(self, s: &[u8]) -> WordAt
-        requires { ⌜ self .at + 4 ≤ length (now s) ⌝ }
-        ensures { λ r. ⌜ (r .value ≡ little (take 4 (drop (self .at) (now (s .entry))))) × (r .next .at ≡ self .at + 4) ⌝ }
-    {
-        let at = self.at;
-        WordAt {
-            value: wide(s[at])
-                + 256 * wide(s[at + 1])
-                + 65536 * wide(s[at + 2])
-                + 16777216 * wide(s[at + 3]),
-            next: Cursor { at: at + 4 },
-        }
+    let next = ub.next;
+    RuleAt {
+        number: 0,
+        kind: 1,
+        values: values.value,
+        slots: slots.value,
+        lb: lb.value,
+        ub: ub.value,
+        next: next,
     }
+}
 
-    // Four bytes with a sign.
-    fn int(self, s: &[u8]) -> IntAt
-        requires { ⌜ self .at + 4 ≤ length (now s) ⌝ }
-        ensures { λ r. ⌜ (r .value ≡ signed 4 (take 4 (drop (self .at) (now (s .entry))))) × (r .next .at ≡ self .at + 4) ⌝ }
-    {
-        let w = self.word(s);
-        let value = twos(w.value, 2147483648);
-        let next = w.next;
-        IntAt {
-            value: value,
-            next: next,
-        }
+// The body of a sum rule: n coefficients, into the table from `to` on, lb and ub.
+fn sum(place: Cursor, s: &[u8], n: usize, coefs: &mut [i32], to: usize) -> RuleAt
+    requires { ⌜ (n ≤ 24) × (to + n ≤ length (now coefs)) ⌝ }
+    ensures { λ r. ⌜ RuleTold (now (s .entry)) to (now (coefs .entry)) (now (coefs .exit)) (bodyNext version1 n (n * 2) (sumBody version1 n) (drop (place .at) (now (s .entry)))) r ⌝ }
+{
+    if place.left(s) < n * 2 + 8 {
+        return refused_rule(1);
     }
-
-    // Two bytes with a sign.
-    fn half(self, s: &[u8]) -> IntAt
-        requires { ⌜ self .at + 2 ≤ length (now s) ⌝ }
-        ensures { λ r. ⌜ (r .value ≡ signed 2 (take 2 (drop (self .at) (now (s .entry))))) × (r .next .at ≡ self .at + 2) ⌝ }
-    {
-        let w = self.short(s);
-        let value = twos(w.value, 32768);
-        let next = w.next;
-        IntAt {
-            value: value,
-            next: next,
-        }
+    let behind = place.coefs(s, n, coefs, to);
+    let lb = behind.int(s);
+    let ub = lb.next.int(s);
+    if !problem::coefs_are_right(&coefs[to..to + n]) {
+        return refused_rule(6);
     }
-
-    // n step sets.
-    fn sets(self, s: &[u8], n: usize) -> SetsAt
-        requires { ⌜ (self .at + n ≤ length (now s)) × (n ≤ 24) ⌝ }
-        ensures { λ r. ⌜ (r .value ≡ padded 24 0 (map little (parted n 1 (drop (self .at) (now (s .entry)))))) × (r .next .at ≡ self .at + n) ⌝ }
-    {
-        let mut value = [0u16; 24];
-        let mut c = self;
-        let mut i: usize = 0;
-        while i < n {
-            let b = c.byte(s);
-            value[i] = set_of(b.value);
-            c = b.next;
-            i += 1;
-        }
-        SetsAt {
-            value: value,
-            next: c,
-        }
+    if !problem::bounds_are_right(lb.value, ub.value) {
+        return refused_rule(6);
     }
-
-    // n weights.
-    fn weights(self, s: &[u8], n: usize) -> WeightsAt
-        requires { ⌜ (self .at + n * 4 ≤ length (now s)) × (n ≤ 24) ⌝ }
-        ensures { λ r. ⌜ (r .value ≡ padded 24 (pos 0) (map (signed 4) (parted n 4 (drop (self .at) (now (s .entry)))))) × (r .next .at ≡ self .at + n * 4) ⌝ }
-    {
-        let mut value = [0i32; 24];
-        let mut c = self;
-        let mut i: usize = 0;
-        while i < n {
-            let w = c.int(s);
-            let x = w.value;
-            value[i] = x;
-            c = w.next;
-            i += 1;
-        }
-        WeightsAt {
-            value: value,
-            next: c,
-        }
+    let next = ub.next;
+    RuleAt {
+        number: 0,
+        kind: 2,
+        values: 0,
+        slots: 0,
+        lb: lb.value,
+        ub: ub.value,
+        next: next,
     }
+}
 
-    // n coefficients, into the table from `to` on.
-    fn coefs(self, s: &[u8], n: usize, coefs: &mut [i32], to: usize) -> Cursor
-        requires { ⌜ (self .at + n * 2 ≤ length (now s)) × (to + n ≤ length (now coefs)) ⌝ }
-        ensures { λ r. ⌜ (now (coefs .exit) ≡ paste (now (coefs .entry)) to (map (signed 2) (parted n 2 (drop (self .at) (now (s .entry))))) n) × (r .at ≡ self .at + n * 2) ⌝ }
-    {
-        let mut c = self;
-        let mut i: usize = 0;
-        while i < n {
-            let w = c.half(s);
-            let x = w.value;
-            coefs[to + i] = x;
-            c = w.next;
-            i += 1;
-        }
-        c
+// A rule: the kind byte decides what follows.
+fn rule_at(place: Cursor, s: &[u8], n: usize, coefs: &mut [i32], to: usize) -> RuleAt
+    requires { ⌜ (n ≤ 24) × (to + n ≤ length (now coefs)) ⌝ }
+    ensures { λ r. ⌜ RuleTold (now (s .entry)) to (now (coefs .entry)) (now (coefs .exit)) (ruleNext n (drop (place .at) (now (s .entry)))) r ⌝ }
+{
+    if place.left(s) < 1 {
+        return refused_rule(1);
     }
-
-    // The body of an among rule: S, the slots, lb and ub.
-    fn among(self, s: &[u8], n: usize) -> RuleAt
-        requires { ⌜ n ≤ 24 ⌝ }
-        ensures { λ r. ⌜ AmongTold (now (s .entry)) (bodyNext version1 n 5 (amongBody version1) (drop (self .at) (now (s .entry)))) r ⌝ }
-    {
-        if self.left(s) < 13 {
-            return refused_rule(1);
-        }
-        let values = self.byte(s);
-        let slots = values.next.word(s);
-        let lb = slots.next.int(s);
-        let ub = lb.next.int(s);
-        if !problem::slots_are_right(slots.value, n) {
-            return refused_rule(6);
-        }
-        if !problem::bounds_are_right(lb.value, ub.value) {
-            return refused_rule(6);
-        }
-        let set = set_of(values.value);
-        let next = ub.next;
-        RuleAt {
-            number: 0,
-            kind: 1,
-            values: set,
-            slots: slots.value,
-            lb: lb.value,
-            ub: ub.value,
-            next: next,
-        }
+    let kind = place.byte(s);
+    let number = kind.value;
+    match number {
+        1 => among(kind.next, s, n),
+        2 => sum(kind.next, s, n, coefs, to),
+        _ => refused_rule(6),
     }
+}
 
-    // The body of a sum rule: n coefficients, into the table from `to` on, lb and ub.
-    fn sum(self, s: &[u8], n: usize, coefs: &mut [i32], to: usize) -> RuleAt
-        requires { ⌜ (n ≤ 24) × (to + n ≤ length (now coefs)) ⌝ }
-        ensures { λ r. ⌜ RuleTold (now (s .entry)) to (now (coefs .entry)) (now (coefs .exit)) (bodyNext version1 n (n * 2) (sumBody version1 n) (drop (self .at) (now (s .entry)))) r ⌝ }
-    {
-        if self.left(s) < n * 2 + 8 {
-            return refused_rule(1);
-        }
-        let behind = self.coefs(s, n, coefs, to);
-        let lb = behind.int(s);
-        let ub = lb.next.int(s);
-        if !problem::coefs_are_right(&coefs[to..to + n]) {
-            return refused_rule(6);
-        }
-        if !problem::bounds_are_right(lb.value, ub.value) {
-            return refused_rule(6);
-        }
-        let next = ub.next;
-        RuleAt {
-            number: 0,
-            kind: 2,
-            values: 0,
-            slots: 0,
-            lb: lb.value,
-            ub: ub.value,
-            next: next,
-        }
-    }
-
-    // A rule: the kind byte decides what follows.
-    fn rule(self, s: &[u8], n: usize, coefs: &mut [i32], to: usize) -> RuleAt
-        requires { ⌜ (n ≤ 24) × (to + n ≤ length (now coefs)) ⌝ }
-        ensures { λ r. ⌜ RuleTold (now (s .entry)) to (now (coefs .entry)) (now (coefs .exit)) (ruleNext n (drop (self .at) (now (s .entry)))) r ⌝ }
-    {
-        let at = self.at;
-        if s.len() <= at {
-            return refused_rule(1);
-        }
-        let kind = s[at];
-        let body = Cursor { at: at + 1 };
-        match kind {
-            1 => body.among(s, n),
-            2 => body.sum(s, n, coefs, to),
-            _ => refused_rule(6),
-        }
-    }
-
-    // m rules, each where the one before ended, up to the first that is refused.
-    fn rules(self, s: &[u8], n: usize, m: usize) -> RulesAt
-        requires { ⌜ (n ≤ 24) × (m ≤ 8) ⌝ }
-        ensures { λ r. ⌜ RulesTold (now (s .entry)) m (rulesNext version1 n m (drop (self .at) (now (s .entry)))) r ⌝ }
-    {
-        let mut kinds = [0u8; 8];
-        let mut values = [0u16; 8];
-        let mut slots = [0u32; 8];
-        let mut coefs = [0i32; 192];
-        let mut lb = [0i32; 8];
-        let mut ub = [0i32; 8];
-        let mut c = self;
-        let mut k: usize = 0;
-        while k < m {
-            let r = c.rule(s, n, &mut coefs, k * 24);
-            if r.number != 0 {
-                return RulesAt {
-                    number: r.number,
-                    kinds: kinds,
-                    values: values,
-                    slots: slots,
-                    coefs: coefs,
-                    lb: lb,
-                    ub: ub,
-                    next: c,
-                };
-            }
-            kinds[k] = r.kind;
-            values[k] = r.values;
-            slots[k] = r.slots;
-            let low = r.lb;
-            let high = r.ub;
-            lb[k] = low;
-            ub[k] = high;
-            c = r.next;
-            k += 1;
-        }
-        RulesAt {
-            number: 0,
-            kinds: kinds,
-            values: values,
-            slots: slots,
-            coefs: coefs,
-            lb: lb,
-            ub: ub,
-            next: c,
-        }
-    }
-
-    // Behind the head: n step sets, n weights, m rules, and nothing after them.
-    fn problem(self, s: &[u8], n: usize, m: usize) -> Reading
-        ensures { λ r. ⌜ r ≡ readAs (readAnswer (problemNext version1 n m (drop (self .at) (now (s .entry))))) ⌝ }
-    {
-        if !problem::head_is_right(n, m) {
-            return refused(4);
-        }
-        if self.left(s) < n {
-            return refused(1);
-        }
-        let sets = self.sets(s, n);
-        let ss = sets.value;
-        if !problem::sets_are_right(&ss[..n]) {
-            return refused(5);
-        }
-        if sets.next.left(s) < n * 4 {
-            return refused(1);
-        }
-        let weights = sets.next.weights(s, n);
-        let ws = weights.value;
-        if !problem::weights_are_right(&ws[..n]) {
-            return refused(5);
-        }
-        let rules = weights.next.rules(s, n, m);
-        if rules.number != 0 {
-            return refused(rules.number);
-        }
-        if rules.next.left(s) != 0 {
-            return refused(7);
-        }
-        let kinds = rules.kinds;
-        let values = rules.values;
-        let slots = rules.slots;
-        let coefs = rules.coefs;
-        let lb = rules.lb;
-        let ub = rules.ub;
-        Reading {
-            number: 0,
-            problem: Problem {
-                n: n,
-                m: m,
-                sets: ss,
-                weights: ws,
+// m rules, each where the one before ended, up to the first that is refused.
+fn rules_at(place: Cursor, s: &[u8], n: usize, m: usize) -> RulesAt
+    requires { ⌜ (n ≤ 24) × (m ≤ 8) ⌝ }
+    ensures { λ r. ⌜ RulesTold (now (s .entry)) m (rulesNext version1 n m (drop (place .at) (now (s .entry)))) r ⌝ }
+{
+    let mut kinds = [0u8; 8];
+    let mut values = [0u16; 8];
+    let mut slots = [0u32; 8];
+    let mut coefs = [0i32; 192];
+    let mut lb = [0i32; 8];
+    let mut ub = [0i32; 8];
+    let mut c = place;
+    let mut k: usize = 0;
+    while k < m {
+        let r = rule_at(c, s, n, &mut coefs, k * 24);
+        if r.number != 0 {
+            return RulesAt {
+                number: r.number,
                 kinds: kinds,
                 values: values,
                 slots: slots,
                 coefs: coefs,
                 lb: lb,
                 ub: ub,
-            },
+                next: c,
+            };
         }
+        kinds[k] = r.kind;
+        values[k] = r.values;
+        slots[k] = r.slots;
+        let low = r.lb;
+        let high = r.ub;
+        lb[k] = low;
+        ub[k] = high;
+        c = r.next;
+        k += 1;
+    }
+    RulesAt {
+        number: 0,
+        kinds: kinds,
+        values: values,
+        slots: slots,
+        coefs: coefs,
+        lb: lb,
+        ub: ub,
+        next: c,
+    }
+}
+
+// Behind the head: n step sets, n weights, m rules, and nothing after them.
+fn sections(place: Cursor, s: &[u8], n: usize, m: usize) -> Reading
+    ensures { λ r. ⌜ r ≡ readAs (readAnswer (problemNext version1 n m (drop (place .at) (now (s .entry))))) ⌝ }
+{
+    if !problem::head_is_right(n, m) {
+        return refused(4);
+    }
+    if place.left(s) < n {
+        return refused(1);
+    }
+    let sets = place.sets(s, n);
+    let ss = sets.value;
+    if !problem::sets_are_right(&ss[..n]) {
+        return refused(5);
+    }
+    if sets.next.left(s) < n * 4 {
+        return refused(1);
+    }
+    let weights = sets.next.weights(s, n);
+    let ws = weights.value;
+    if !problem::weights_are_right(&ws[..n]) {
+        return refused(5);
+    }
+    let rules = rules_at(weights.next, s, n, m);
+    if rules.number != 0 {
+        return refused(rules.number);
+    }
+    if rules.next.left(s) != 0 {
+        return refused(7);
+    }
+    let kinds = rules.kinds;
+    let values = rules.values;
+    let slots = rules.slots;
+    let coefs = rules.coefs;
+    let lb = rules.lb;
+    let ub = rules.ub;
+    Reading {
+        number: 0,
+        problem: Problem {
+            n: n,
+            m: m,
+            sets: ss,
+            weights: ws,
+            kinds: kinds,
+            values: values,
+            slots: slots,
+            coefs: coefs,
+            lb: lb,
+            ub: ub,
+        },
     }
 }
 
@@ -487,5 +295,5 @@ pub fn read(s: &[u8]) -> Reading
     let m = n.next.byte(s);
     let slots = count(n.value);
     let rules = count(m.value);
-    m.next.problem(s, slots, rules)
+    sections(m.next, s, slots, rules)
 }

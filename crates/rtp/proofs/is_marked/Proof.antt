@@ -1,6 +1,6 @@
 -- `is_marked` meets its contract: each return by the letters that were compared.
 use borrow.Author.Needs.{needs}
-use Rattle.rtp.proofs.Fields.{first-wrong, second-wrong, third-wrong, all-right}
+use Rattle.rtp.proofs.Mark.{first-wrong, second-wrong, third-wrong, all-right}
 use Rattle.rtp.proofs.is_marked.Statement.{statement}
 use Rattle.rtp.proofs.is_marked.Tie as tie
 

@@ -8,7 +8,7 @@ use Prim.Native.Nat.{ℕ}
 use lib.ListN.{getD, take, drop}
 use Rattle.laws.specs.Lists.{same}
 use Rattle.meaning.specs.File.{little, mark}
-use Rattle.rtp.proofs.Fields.{one-byte}
+use Rattle.cursor.proofs.Fields.{one-byte}
 use Rattle.rtp.proofs.Whole.{told-as, head-short, mark-wrong, version-wrong, head-read, same-place}
 use Rattle.rtp.proofs.read.Statement.{statement}
 use Rattle.rtp.proofs.read.Tie as tie
@@ -57,8 +57,8 @@ count-requires c κs = search needs
 count-requires-2 : tie.Need-count-requires-2
 count-requires-2 c κs = search needs
 
-problem-requires : tie.Need-problem-requires
-problem-requires c κs = search needs
+sections-requires : tie.Need-sections-requires
+sections-requires c κs = search needs
 
 returns-4 : tie.Need-returns-4
 returns-4 c =
@@ -68,7 +68,7 @@ returns-4 c =
     let on : c .before .before .before .before .byte .result .next .at ≡ 6 = omega arith in
     let rules : c .before .count2 .result ≡ getD s 6 0 = c .before .count2 .ensures ∙ c .before .before .before .byte2 .ensures .0 ∙ ap (λ (k : ℕ). little (take 1 (drop k s))) on ∙ one-byte s 6 (omega arith) in
     let end : c .before .before .before .byte2 .result .next .at ≡ 7 = omega arith in
-    told-as (c .problem .ensures) (head-read s (omega arith) (marked m) (sym (c .before .before .before .before .before .before .before .short .ensures .0) ∙ c .before .before .before .before .before .if3 .left) ∙ sym (same-place s slots rules end))
+    told-as (c .sections .ensures) (head-read s (omega arith) (marked m) (sym (c .before .before .before .before .before .before .before .short .ensures .0) ∙ c .before .before .before .before .before .if3 .left) ∙ sym (same-place s slots rules end))
 
 pub read-spec : {M : Type 1} → statement M
 read-spec =
@@ -86,5 +86,5 @@ read-spec =
     byte-requires-2
     count-requires
     count-requires-2
-    problem-requires
+    sections-requires
     returns-4)
