@@ -1,17 +1,17 @@
 -- Which number do some bytes of the file say?
-use mathlib.Core.Path.{_≡_, refl, sym, ap, _∙_}
+use mathlib.Core.Path.{_≡_, refl, ap, _∙_}
 use mathlib.Core.List.{List, [], _∷_, map}
-use mathlib.Core.Bool.{Bool, true, false, _&&_, cond}
-use Prim.Native.Nat.{ℕ, suc, _+_, _*_, _-_, _^_, _≤_, _<_}
+use mathlib.Core.Bool.{Bool, true, false, cond}
+use Prim.Native.Nat.{ℕ, _+_, _*_, _-_, _^_, _≤_, _<_}
 use native.Mathlib.Omega.{arith}
-use borrow.Author.Tests.{ltb-true, ltb-false, lt-ltb, le-ltb, eq-eqb, ne-eqb}
-use lib.Dec.{eqb, ltb}
+use borrow.Author.Tests.{ltb-true, ltb-false, lt-ltb, le-ltb}
+use lib.Dec.{ltb}
 use lib.ListN.{length, getD, set, take, drop, replicate, length-drop}
-use lib.IntN.{ℤ, pos, negsuc}
+use lib.IntN.{pos, negsuc}
 use lib.Seq.{getD-drop, drop-drop, paste}
 use Rattle.laws.specs.Lists.{same, parted, padded}
 use Rattle.laws.proofs.Filled.{padded-none, padded-paste, paste-field, length-fields}
-use Rattle.meaning.specs.File.{little, belowHalf, signed, mark}
+use Rattle.meaning.specs.File.{little, belowHalf, signed}
 use Rattle.cursor.specs.Twos.{twosOf}
 
 -- the first one, two and four bytes of a list

@@ -1,18 +1,17 @@
 // The problem by value: its ranges, its shares, steps and prices, and the guard on running numbers.
 ghost use mathlib.Core.Path.{_≡_};
-ghost use mathlib.Core.Bool.{_&&_, cond};
-ghost use mathlib.Core.List.{List};
+ghost use mathlib.Core.Bool.{_&&_};
 ghost use Prim.Native.Nat.{_+_, _*_, _/_, _^_, _≤_, _<_};
 ghost use lib.Dec.{eqb};
-ghost use lib.IntN.{ℤ, pos, natAbs, negℤ, _*ℤ_};
-ghost use lib.ListN.{length, getD, take, drop};
+ghost use lib.IntN.{ℤ, pos, _*ℤ_};
+ghost use lib.ListN.{length, take, drop};
 ghost use lib.Signed.{leZ};
 ghost use Rattle.laws.specs.Lists.{every, from};
 ghost use Rattle.laws.specs.Z.{Within};
 ghost use Rattle.meaning.specs.Plan.{allows};
-ghost use Rattle.meaning.specs.Problem.{stepCount, version1, size, rightHead, rightSet, rightRule, shareOf};
-ghost use Rattle.meaning.specs.Running.{sizes, guard};
-ghost use Rattle.problem.specs.Held.{termsOf, between, rightKind, ruleSaid, rightAt, faultIn, Shares};
+ghost use Rattle.meaning.specs.Problem.{stepCount, version1, size, rightHead, rightSet, rightRule};
+ghost use Rattle.meaning.specs.Running.{guard};
+ghost use Rattle.problem.specs.Held.{between, rightKind, ruleSaid, rightAt, faultIn, Shares};
 
 // The number of steps: 0 to 7.
 pub const STEPS: usize = 8;

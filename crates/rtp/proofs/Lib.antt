@@ -3,3 +3,4 @@ pub mod Mark
 pub mod Bodies
 pub mod Rules
 pub mod Whole
+pub mod Cases

@@ -1,7 +1,7 @@
 -- `better` meets its contract: the empty start for a refused file, else the slice of the case that was chosen.
 use borrow.Author.Needs.{needs}
-use mathlib.Core.Path.{_≡_, refl, sym, ap, _∙_}
-use Rattle.meaning.specs.Calls.{Choice, better}
+use mathlib.Core.Path.{_≡_, refl, sym, _∙_}
+use Rattle.meaning.specs.Calls.{better}
 use Rattle.judge.specs.Answers.{choiceOf}
 use Rattle.brennigou.proofs.Opened.{opened-no, opened-yes, better-refused, better-opened}
 use Rattle.brennigou.proofs.better.Statement.{statement}

@@ -4,7 +4,6 @@ use borrow.Author.Tests.{not-true, not-false}
 use mathlib.Core.Bool.{true}
 use mathlib.Core.Path.{_≡_, refl, sym, _∙_}
 use native.Mathlib.Omega.{arith}
-use Prim.Native.Nat.{_≤_}
 use lib.ListN.{length, take, length-take}
 use Rattle.laws.specs.Lists.{every}
 use Rattle.meaning.specs.Problem.{size, rightHead, rightSet}

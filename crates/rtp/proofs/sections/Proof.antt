@@ -1,13 +1,13 @@
 -- `sections` meets its contract: each section is what the definition reads there, and each return follows by the tests that led there.
 use borrow.Author.Needs.{needs}
 use borrow.Author.Tests.{not-true, not-false}
-use mathlib.Core.Bool.{true, false}
-use mathlib.Core.Path.{_≡_, refl, sym, ap, subst, _∙_}
+use mathlib.Core.Bool.{true}
+use mathlib.Core.Path.{_≡_, sym, ap, subst, _∙_}
 use mathlib.Core.List.{List, map}
 use native.Mathlib.Omega.{arith}
 use Prim.Native.Nat.{ℕ, _+_, _*_, _≤_, _<_}
 use lib.IntN.{ℤ, pos}
-use lib.ListN.{length, take, drop, length-drop}
+use lib.ListN.{length, drop, length-drop}
 use lib.Seq.{drop-drop}
 use Rattle.laws.specs.Lists.{every, parted, padded}
 use Rattle.laws.proofs.Filled.{length-fields}
@@ -16,7 +16,7 @@ use Rattle.meaning.specs.File.{Got, little, signed, rulesNext}
 use Rattle.meaning.proofs.Faultless.{HeadRange, test-range}
 use Rattle.rtp.specs.declared.Reading.{Reading}
 use Rattle.rtp.specs.Reading.{Told, RulesAre}
-use Rattle.rtp.proofs.Rules.{Is, told-read, told-refused}
+use Rattle.rtp.proofs.Rules.{told-read, told-refused}
 use Rattle.rtp.proofs.Whole.{told-as, part-long, part-whole, part-tested, sets, behindSets, weights, behindWeights, head-wrong, sets-short, sets-wrong, weights-short, weights-wrong, rules-refused, bytes-left, accepted}
 use Rattle.rtp.proofs.sections.Statement.{statement}
 use Rattle.rtp.proofs.sections.Tie as tie

@@ -1,6 +1,6 @@
 -- `int` meets its contract: the four bytes, and their sign.
 use borrow.Author.Needs.{needs}
-use mathlib.Core.Path.{_≡_, refl, sym, ap, _∙_}
+use mathlib.Core.Path.{refl, sym, ap, _∙_}
 use lib.ListN.{take, drop}
 use Rattle.laws.specs.Z.{told}
 use Rattle.cursor.specs.Twos.{twosOf}

@@ -1,6 +1,6 @@
 -- `word` meets its contract: the four bytes at the cursor.
 use borrow.Author.Needs.{needs}
-use mathlib.Core.Path.{refl, sym, _∙_}
+use mathlib.Core.Path.{refl}
 use native.Mathlib.Omega.{arith}
 use Rattle.cursor.proofs.Fields.{four-bytes}
 use Rattle.cursor.proofs.Cursor.word.Statement.{statement}
