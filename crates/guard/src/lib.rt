@@ -20,7 +20,7 @@ pub fn size_of(z: i32) -> u64
 
 // The size of a rule's share of slot i and step v.
 fn share_size(kind: u8, values: u16, slots: u32, coef: i32, i: usize, v: usize) -> u64
-    requires { ⌜ (i < 24) × (v < 8) ⌝ }
+    requires { ⌜ (i < 24) × (v < stepCount) ⌝ }
     ensures { λ r. ⌜ ShareSize kind values slots coef i v r ⌝ }
 {
     match kind {

@@ -1,7 +1,7 @@
 -- What does it say of a problem that it is in range? No fault stands, and the format has bytes for it: in words, where the definitions have tests.
 use mathlib.Core.Path.{_≡_, refl, sym, subst}
-use mathlib.Core.List.{List}
-use mathlib.Core.Bool.{Bool, true, false, not, _&&_, cond, true≢false}
+use mathlib.Core.List.{List, [], _∷_}
+use mathlib.Core.Bool.{Bool, true, false, not, _&&_, true≢false}
 use Prim.Native.Nat.{ℕ, _*_, _/_, _^_, _≤_, _<_}
 use native.Mathlib.Nat.{div-lt-iff-lt-mul, div-eq-of-lt, one-le-pow}
 use native.Mathlib.Omega.{arith}
@@ -16,7 +16,7 @@ use Rattle.laws.proofs.Lists.{and-l, and-r, and-both, no-false, In, every-in}
 use Rattle.laws.proofs.Parts.{Fails, fails, every-no}
 use Rattle.laws.proofs.Each.{Each, each-every, every-each}
 use Rattle.meaning.specs.Plan.{slots}
-use Rattle.meaning.specs.Problem.{mostSlots, mostRules, Terms, among, sums, Said, Problem, campaign, Format, size, rightHead, rightSet, rightTerms, rightLead, rightRule, holdsTerms, holdsAll, faultOf, inRange}
+use Rattle.meaning.specs.Problem.{mostSlots, mostRules, Terms, among, sums, Said, Problem, campaign, Format, size, firstFault, rightHead, rightSet, rightTerms, rightLead, rightRule, holdsTerms, holdsAll, faultOf, inRange}
 
 -- ---- a size
 pub within-size : (m : ℕ) (z : ℤ) → Within m z → size m z ≡ true
@@ -157,11 +157,11 @@ pub record InRange (f : Format) (p : Problem) : Type 0 where
   pub held : every (λ r. holdsTerms f (length (p .sets)) (r .terms)) (p .rules) ≡ true
 
 -- the first fault is none: no test fails
-no-fault : (a b c : Bool) → eqb (cond (not a) 4 (cond (not b) 5 (cond (not c) 6 0))) 0 ≡ true → (a ≡ true) × (b ≡ true) × (c ≡ true)
+pub no-fault : (a b c : Bool) → firstFault ((4, not a) ∷ (5, not b) ∷ (6, not c) ∷ []) ≡ 0 → (a ≡ true) × (b ≡ true) × (c ≡ true)
 no-fault true true true e = (refl, refl, refl)
-no-fault true true false e = absurd (true≢false (sym e))
-no-fault true false c e = absurd (true≢false (sym e))
-no-fault false b c e = absurd (true≢false (sym e))
+no-fault true true false e = absurd (omega arith)
+no-fault true false c e = absurd (omega arith)
+no-fault false b c e = absurd (omega arith)
 
 pub in-range : (f : Format) (p : Problem) → inRange f p ≡ true → InRange f p
 in-range f p e =
@@ -171,7 +171,7 @@ in-range f p e =
     let c = every (λ s. ltb s (256 ^ f .setBytes)) (p .sets) in
     let d = eqb (length (p .weights)) n in
     let h = every (λ (r : Said). holdsTerms f n (r .terms)) (p .rules) in
-    let ranges = no-fault (rightHead n (length (p .rules))) (a && b) (every (rightRule f n) (p .rules)) (and-l (eqb (faultOf f p) 0) (holdsAll f p) e) in
+    let ranges = no-fault (rightHead n (length (p .rules))) (a && b) (every (rightRule f n) (p .rules)) (eqb-true (faultOf f p) 0 (and-l (eqb (faultOf f p) 0) (holdsAll f p) e)) in
     let holds = and-r (eqb (faultOf f p) 0) (c && d && h) e in
     let cd = and-l (c && d) h holds in
     record {

@@ -1,11 +1,9 @@
 -- What does it say of a problem by value that it has no fault? The facts in words, where the definitions have tests.
 use mathlib.Core.Path.{_≡_, refl, sym}
-use mathlib.Core.List.{[], _∷_}
 use mathlib.Core.Logic.{_⊎_, inl, inr}
-use mathlib.Core.Bool.{Bool, true, false, not, _&&_, _||_, true≢false}
+use mathlib.Core.Bool.{Bool, true, false, _&&_, _||_, true≢false}
 use Prim.Native.Nat.{ℕ, _*_, _<_}
 use native.Mathlib.Nat.{zero-add}
-use native.Mathlib.Omega.{arith}
 use borrow.Author.Tests.{eqb-true}
 use lib.Dec.{eqb}
 use lib.ListN.{getD, take, drop}
@@ -13,8 +11,8 @@ use Rattle.laws.specs.Z.{Within}
 use Rattle.laws.specs.Lists.{every, from}
 use Rattle.laws.proofs.Lists.{and-l, and-r, In, in-from, every-in}
 use Rattle.laws.proofs.Each.{Each}
-use Rattle.meaning.specs.Problem.{Format, size, firstFault, rightHead, rightSet, rightRule}
-use Rattle.meaning.proofs.Faultless.{HeadRange, RightFields, test-range, test-nonzero, size-each, test-fields}
+use Rattle.meaning.specs.Problem.{Format, size, rightHead, rightSet, rightRule}
+use Rattle.meaning.proofs.Faultless.{HeadRange, RightFields, test-range, test-nonzero, size-each, test-fields, no-fault}
 use Rattle.problem.specs.declared.Problem.{Problem}
 use Rattle.problem.specs.Held.{said, saidAt, rightKind, rightAt, faultIn}
 
@@ -52,13 +50,6 @@ right-one f p k e =
       fields = fields;
       coefs = λ q. rw q at (fields .terms);
     }
-
--- the first fault is none: no test fails
-no-fault : (a b c : Bool) → firstFault ((4, not a) ∷ (5, not b) ∷ (6, not c) ∷ []) ≡ 0 → (a ≡ true) × (b ≡ true) × (c ≡ true)
-no-fault true true true e = (refl, refl, refl)
-no-fault true true false e = absurd (omega arith)
-no-fault true false c e = absurd (omega arith)
-no-fault false b c e = absurd (omega arith)
 
 pub right : (f : Format) (p : Problem) → faultIn f p ≡ 0 → Right f p
 right f p e =

@@ -181,7 +181,7 @@ pub fn allows(set: u16, v: usize) -> bool
 
 // A rule's share of slot i and step v, where its coefficient of that slot is `coef`: the kind decides.
 pub fn share(kind: u8, values: u16, slots: u32, coef: i32, i: usize, v: usize) -> i32
-    requires { ⌜ (i < 24) × (v < 8) × (kind ≡ 2 → Within 1000 coef) ⌝ }
+    requires { ⌜ (i < 24) × (v < stepCount) × (kind ≡ 2 → Within 1000 coef) ⌝ }
     ensures { λ r. ⌜ Shares kind values slots coef i v r ⌝ }
 {
     match kind {
@@ -200,7 +200,7 @@ pub fn share(kind: u8, values: u16, slots: u32, coef: i32, i: usize, v: usize) -
 
 // What step v costs in a slot of that weight.
 pub fn price(weight: i32, v: usize) -> i32
-    requires { ⌜ (v < 8) × Within 10000 weight ⌝ }
+    requires { ⌜ (v < stepCount) × Within 10000 weight ⌝ }
     ensures { λ r. ⌜ (r ≡ weight *ℤ pos v) × Within 70000 r ⌝ }
 {
     weight * (v as i32)
