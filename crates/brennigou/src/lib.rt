@@ -1,4 +1,4 @@
-// The public library: every operation from a plan file, for any bytes.
+// The public library: the operations from a plan file, for any bytes. Reading alone is `rtp::read`.
 ghost use mathlib.Core.Path.{_≡_};
 ghost use Rattle.meaning.specs.Calls.{judge, better};
 ghost use Rattle.judge.specs.Answers.{judgedAs};

@@ -9,6 +9,7 @@ ghost use Rattle.meaning.specs.Running.{sizes, guard};
 ghost use Rattle.problem.specs.Held.{termsOf, campaignOf};
 ghost use Rattle.guard.specs.Size.{ShareSize, GreatestSize};
 use problem::Problem;
+use problem::ROW;
 use problem::STEPS;
 
 // The distance of z from 0.
@@ -25,12 +26,11 @@ fn share_size(kind: u8, values: u16, slots: u32, coef: i32, i: usize, v: usize) 
 {
     match kind {
         1 => {
-            if (values >> v) % 2 == 1 {
-                if (slots >> i) % 2 == 1 {
-                    return 1;
-                }
+            if problem::counts(values, slots, i, v) {
+                1
+            } else {
+                0
             }
-            0
         }
         2 => size_of(coef) * (v as u64),
         _ => 0,
@@ -95,7 +95,7 @@ pub fn guard_of(p: Problem) -> u32
         let kind = p.kinds[k];
         let values = p.values[k];
         let slots = p.slots[k];
-        if 2000000 < slot_sizes(n, kind, values, slots, &p.coefs, k * 24, &p.sets) {
+        if 2000000 < slot_sizes(n, kind, values, slots, &p.coefs, k * ROW, &p.sets) {
             return 9;
         }
         k += 1;

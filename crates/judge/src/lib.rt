@@ -11,6 +11,7 @@ ghost use Rattle.meaning.specs.Calls.{judged, betterOf};
 ghost use Rattle.problem.specs.Held.{termsOf, campaignOf, faultIn};
 ghost use Rattle.judge.specs.Answers.{Steps, RightCoefs, judgedAs, choiceOf};
 use problem::Problem;
+use problem::ROW;
 
 // What the judge says: a refusal's number with no and 0, or 0 with lawful or not and the cost, 0 if unlawful.
 pub struct Judged {
@@ -79,7 +80,7 @@ fn keeps_rules(p: Problem, plan: &[u8]) -> bool
         let slots = p.slots[k];
         let lb = p.lb[k];
         let ub = p.ub[k];
-        let total = total_of(kind, values, slots, &p.coefs, k * 24, plan);
+        let total = total_of(kind, values, slots, &p.coefs, k * ROW, plan);
         if total < lb {
             return false;
         }

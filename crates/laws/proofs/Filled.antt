@@ -1,6 +1,6 @@
 -- Arrays that a loop fills: a list in the first places, one value in all the others.
 use mathlib.Core.Path.{_≡_, refl, sym, ap, _∙_}
-use mathlib.Core.List.{List, [], _∷_, _++_, map, append-assoc}
+use mathlib.Core.List.{List, [], _∷_, _++_, map, append-assoc, append-nil}
 use mathlib.Core.Bool.{Bool, _&&_}
 use Prim.Native.Nat.{ℕ, zero, suc, _+_, _*_, _≤_, _<_}
 use native.Mathlib.Nat.{not-suc-le-zero, le-of-suc-le-suc, zero-add, add-zero, suc-add, zero-mul, suc-mul, mul-le-mul-right}
@@ -119,7 +119,7 @@ module _ {A : Type 0} where
 
 -- ---- rows of w places each, one behind the other
 module _ {A B : Type 0} (g : A → List B) (w : ℕ) (wide : (x : A) → length (g x) ≡ w) where
-  length-rows : (l : List A) → length (gather g l) ≡ length l * w
+  pub length-rows : (l : List A) → length (gather g l) ≡ length l * w
   length-rows [] = sym (zero-mul w)
   length-rows (x ∷ l) = length-append (g x) (gather g l) ∙ omega (arith, wide x, length-rows l, suc-mul (length l) w)
 
@@ -138,6 +138,11 @@ module _ {A B : Type 0} (g : A → List B) (w : ℕ) (wide : (x : A) → length 
       let long = length-rows l in
       let within : k * w + n ≤ length m = omega (arith, mul-le-mul-right w h, suc-mul k w) in
       sym (take-within (k * w) n (length m) (padded t z m) within) ∙ rw (take-padded z t m (omega arith)) (row l k n d h b)
+
+-- one row more
+pub gather-more : {A B : Type 0} (g : A → List B) (l : List A) (x : A) → gather g (l ++ x ∷ []) ≡ gather g l ++ g x
+gather-more g [] x = append-nil (g x)
+gather-more g (y ∷ l) x = ap (λ r. g y ++ r) (gather-more g l x) ∙ sym (append-assoc (g y) (gather g l) (g x))
 
 -- n fields of k bytes are n
 pub length-fields : {A B : Type 0} (g : List A → B) (n k : ℕ) (l : List A) → length (map g (parted n k l)) ≡ n

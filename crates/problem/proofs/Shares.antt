@@ -1,6 +1,7 @@
 -- What is a number times a step as an i32, and what is each kind's share?
-use mathlib.Core.Path.{_≡_, ap}
-use Prim.Native.Nat.{ℕ, _*_, _/_, _%_, _^_, _<_}
+use mathlib.Core.Path.{_≡_, sym, ap, _∙_}
+use mathlib.Core.Bool.{Bool, true, false, _&&_}
+use Prim.Native.Nat.{ℕ, _*_, _<_}
 use native.Mathlib.Omega.{arith}
 use borrow.Author.Tests.{eq-eqb, ne-eqb}
 use lib.Dec.{T, leb, le→leb, leb→le}
@@ -9,6 +10,7 @@ use mir.Syntax.{w32}
 use mir.Val.{SFits, toZ}
 use mir.Facts.{toZ-pos}
 use Rattle.laws.specs.Z.{Within, mul-within, mul32, back, back-is}
+use Rattle.meaning.specs.Plan.{bit}
 use Rattle.problem.specs.Held.{Shares}
 
 -- ---- a number times a step
@@ -27,14 +29,13 @@ module _ {x : ℤ} {v m : ℕ} (w : Within m x) (h : v < 8) (t : T (leb (m * 7) 
 
 -- ---- the shares
 module _ (kind values slots : ℕ) (coef : ℤ) (i v : ℕ) where
-  pub share-one : kind ≡ 1 → values / 2 ^ v % 2 ≡ 1 → slots / 2 ^ i % 2 ≡ 1 → Shares kind values slots coef i v (pos 1)
-  share-one k a b = record { is = λ c e. rw (eq-eqb kind 1 k, eq-eqb (values / 2 ^ v % 2) 1 a, eq-eqb (slots / 2 ^ i % 2) 1 b); within = record { size = omega arith } }
+  -- t is whether it counts the slot
+  module _ (k : kind ≡ 1) {t : Bool} (e : t ≡ (bit values v && bit slots i)) where
+    pub share-one : t ≡ true → Shares kind values slots coef i v (pos 1)
+    share-one h = record { is = λ c d. rw (eq-eqb kind 1 k, sym e ∙ h); within = record { size = omega arith } }
 
-  pub share-off : kind ≡ 1 → values / 2 ^ v % 2 ≡ 1 → (slots / 2 ^ i % 2 ≡ 1 → ⊥) → Shares kind values slots coef i v (pos 0)
-  share-off k a b = record { is = λ c e. rw (eq-eqb kind 1 k, eq-eqb (values / 2 ^ v % 2) 1 a, ne-eqb (slots / 2 ^ i % 2) 1 b); within = record { size = omega arith } }
-
-  pub share-not : kind ≡ 1 → (values / 2 ^ v % 2 ≡ 1 → ⊥) → Shares kind values slots coef i v (pos 0)
-  share-not k a = record { is = λ c e. rw (eq-eqb kind 1 k, ne-eqb (values / 2 ^ v % 2) 1 a); within = record { size = omega arith } }
+    pub share-not : t ≡ false → Shares kind values slots coef i v (pos 0)
+    share-not h = record { is = λ c d. rw (eq-eqb kind 1 k, sym e ∙ h); within = record { size = omega arith } }
 
   pub share-sum : kind ≡ 2 → {r : ℤ} → r ≡ coef *ℤ pos v → Within 7000 r → Shares kind values slots coef i v r
   share-sum k q w = record { is = λ c e. rw (k, e, q); within = w }

@@ -10,7 +10,7 @@ use lib.Signed.{leZ}
 use Rattle.laws.specs.Lists.{every, gather, from, padded}
 use Rattle.laws.specs.Z.{Within}
 use Rattle.meaning.specs.Plan.{Campaign}
-use Rattle.meaning.specs.Problem.{Terms, among, sums, Said, Format, size, rightHead, rightSet, rightRule, firstFault, shareOf, campaign}
+use Rattle.meaning.specs.Problem.{mostSlots, mostRules, Terms, among, sums, Said, Format, size, rightHead, rightSet, rightRule, firstFault, shareOf, campaign}
 use Rattle.meaning.specs.Problem as paper
 use Rattle.problem.specs.declared.Problem.{Problem}
 
@@ -23,10 +23,10 @@ termsOf kind values slots coefs = cond (eqb kind 1) (among values slots) (sums (
 abbrev pub ruleSaid : ℕ → ℕ → ℕ → List ℤ → ℤ → ℤ → Said
 ruleSaid kind values slots coefs lb ub = record { terms = termsOf kind values slots coefs; lb = lb; ub = ub; lead = pos 0 }
 
--- rule k: 24 places for its coefficients, n of them used
+-- rule k: a place for each of 24 slots in the table of coefficients, n of them used
 abbrev pub saidAt : Problem → ℕ → Said
 saidAt p k =
-    let coefs = take (p .n) (drop (k * 24) (p .coefs)) in
+    let coefs = take (p .n) (drop (k * mostSlots) (p .coefs)) in
     ruleSaid (getD (p .kinds) k 0) (getD (p .values) k 0) (getD (p .slots) k 0) coefs (getD (p .lb) k (pos 0)) (getD (p .ub) k (pos 0))
 
 -- n step sets, n weights, m rules
@@ -80,11 +80,11 @@ coefsOf (sums c) = c
 
 -- a field of each rule
 abbrev pub eachRule : {A : Type 0} → (Said → A) → A → List Said → List A
-eachRule f z rs = padded 8 z (map f rs)
+eachRule f z rs = padded mostRules z (map f rs)
 
--- 24 places for the coefficients of each
+-- a row of places for the coefficients of each
 abbrev pub rows : List Said → List ℤ
-rows rs = padded 192 (pos 0) (gather (λ r. padded 24 (pos 0) (coefsOf (r .terms))) rs)
+rows rs = padded (mostRules * mostSlots) (pos 0) (gather (λ r. padded mostSlots (pos 0) (coefsOf (r .terms))) rs)
 
 -- the whole problem
 abbrev pub held : paper.Problem → Problem
@@ -93,8 +93,8 @@ held q =
     record {
       n = length (q .sets);
       m = length rs;
-      sets = padded 24 0 (q .sets);
-      weights = padded 24 (pos 0) (q .weights);
+      sets = padded mostSlots 0 (q .sets);
+      weights = padded mostSlots (pos 0) (q .weights);
       kinds = eachRule (λ r. kindOf (r .terms)) 0 rs;
       values = eachRule (λ r. valuesOf (r .terms)) 0 rs;
       slots = eachRule (λ r. slotsOf (r .terms)) 0 rs;

@@ -1,4 +1,4 @@
-// The problem by value: its ranges, its shares, steps and prices, and the guard on running numbers.
+// The problem by value: its ranges and faults, its steps, shares and prices.
 ghost use mathlib.Core.Path.{_≡_};
 ghost use mathlib.Core.Bool.{_&&_};
 ghost use Prim.Native.Nat.{_+_, _*_, _/_, _^_, _≤_, _<_};
@@ -8,15 +8,17 @@ ghost use lib.ListN.{length, take, drop};
 ghost use lib.Signed.{leZ};
 ghost use Rattle.laws.specs.Lists.{every, from};
 ghost use Rattle.laws.specs.Z.{Within};
-ghost use Rattle.meaning.specs.Plan.{allows};
+ghost use Rattle.meaning.specs.Plan.{bit, allows};
 ghost use Rattle.meaning.specs.Problem.{stepCount, version1, size, rightHead, rightSet, rightRule};
-ghost use Rattle.meaning.specs.Running.{guard};
 ghost use Rattle.problem.specs.Held.{between, rightKind, ruleSaid, rightAt, faultIn, Shares};
 
 // The number of steps: 0 to 7.
 pub const STEPS: usize = 8;
 
-// Rule k's coefficient of slot i stands at k * 24 + i. Entries at n and m and above, and fields that a rule's kind lacks, say nothing.
+// The places of a rule in the table of coefficients, one for each slot.
+pub const ROW: usize = 24;
+
+// Rule k's coefficient of slot i stands at k * ROW + i. Entries at n and m and above, and fields that a rule's kind lacks, say nothing.
 pub struct Problem {
     pub n: usize,
     pub m: usize,
@@ -137,7 +139,7 @@ fn rules_are_right(p: Problem) -> bool
         let slots = p.slots[k];
         let lb = p.lb[k];
         let ub = p.ub[k];
-        if !rule_is_right(n, kind, slots, &p.coefs, k * 24, lb, ub) {
+        if !rule_is_right(n, kind, slots, &p.coefs, k * ROW, lb, ub) {
             return false;
         }
         k += 1;
@@ -179,20 +181,25 @@ pub fn allows(set: u16, v: usize) -> bool
     }
 }
 
+// An among rule counts the slot: it is named, and its step is in S.
+pub fn counts(values: u16, slots: u32, i: usize, v: usize) -> bool
+    requires { ⌜ (i < 24) × (v < stepCount) ⌝ }
+    ensures { λ r. ⌜ r ≡ (bit values v && bit slots i) ⌝ }
+{
+    if (values >> v) % 2 == 1 {
+        (slots >> i) % 2 == 1
+    } else {
+        false
+    }
+}
+
 // A rule's share of slot i and step v, where its coefficient of that slot is `coef`: the kind decides.
 pub fn share(kind: u8, values: u16, slots: u32, coef: i32, i: usize, v: usize) -> i32
     requires { ⌜ (i < 24) × (v < stepCount) × (kind ≡ 2 → Within 1000 coef) ⌝ }
     ensures { λ r. ⌜ Shares kind values slots coef i v r ⌝ }
 {
     match kind {
-        1 => {
-            if (values >> v) % 2 == 1 {
-                if (slots >> i) % 2 == 1 {
-                    return 1;
-                }
-            }
-            0
-        }
+        1 => { if counts(values, slots, i, v) { 1 } else { 0 } }
         2 => coef * (v as i32),
         _ => 0,
     }

@@ -7,7 +7,7 @@ use lib.ListN.{length, set, drop, replicate, length-map, length-append}
 use lib.IntN.{ℤ, pos}
 use lib.Seq.{paste}
 use Rattle.laws.specs.Lists.{gather, padded}
-use Rattle.laws.proofs.Filled.{length-padded, padded-more, padded-paste, padded-row}
+use Rattle.laws.proofs.Filled.{length-padded, padded-more, padded-paste, padded-row, length-rows, gather-more}
 use Rattle.meaning.specs.Problem.{Said, version1}
 use Rattle.meaning.specs.File.{Got, refused, got, Reader, onward, little, part, kindNext, rulesNext}
 use Rattle.problem.specs.Held.{kindOf, valuesOf, slotsOf, coefsOf, eachRule, rows}
@@ -95,22 +95,14 @@ field-more f z {k = k} done x h count filled value =
 abbrev row : Said → List ℤ
 row r = padded 24 (pos 0) (coefsOf (r .terms))
 
-gather-more : (done : List Said) (x : Said) → gather row (done ++ x ∷ []) ≡ gather row done ++ row x
-gather-more [] x = append-nil (row x)
-gather-more (r ∷ done) x = ap (λ (l : List ℤ). row r ++ l) (gather-more done x) ∙ sym (append-assoc (row r) (gather row done) (row x))
-
-gather-length : (done : List Said) → length (gather row done) ≡ length done * 24
-gather-length [] = refl
-gather-length (r ∷ done) = omega (arith, length-append (row r) (gather row done), length-padded (pos 0) 24 (coefsOf (r .terms)), gather-length done)
-
 rows-more : {t t′ : List ℤ} {k : ℕ} (done : List Said) (x : Said) → k < 8 → length done ≡ k → t ≡ rows done → length (coefsOf (x .terms)) ≤ 24
     → t′ ≡ paste t (k * 24) (coefsOf (x .terms)) (length (coefsOf (x .terms))) → t′ ≡ rows (done ++ x ∷ [])
 rows-more {k = k} done x h count filled short pasted =
     let cs = coefsOf (x .terms) in
     let l = gather row done in
-    let long : length l ≡ k * 24 = omega (arith, gather-length done) in
+    let long : length l ≡ k * 24 = omega (arith, length-rows row 24 (λ (r : Said). length-padded (pos 0) 24 (coefsOf (r .terms))) done) in
     let room : length l + length cs ≤ 192 = omega arith in
-    pasted ∙ rw (filled, gather-more done x) (rw long at (padded-paste (pos 0) 192 l cs room) ∙ sym (padded-row (pos 0) 192 24 l cs short))
+    pasted ∙ rw (filled, gather-more row done x) (rw long at (padded-paste (pos 0) 192 l cs room) ∙ sym (padded-row (pos 0) 192 24 l cs short))
 
 module _ {s : List ℕ} {n m first : ℕ} {kinds values slots : List ℕ} {coefs lb ub : List ℤ} {at k : ℕ} (so : SoFar s n m first kinds values slots coefs lb ub at k) (h : k < m) where
   left-on : rulesNext version1 n m (drop first s) ≡ behind (so .done) (onward (ruleNext n (drop at s)) (others n (m - (k + 1)) (drop at s)))

@@ -58,6 +58,25 @@ pub record RulesAre (s : List ℕ) (m : ℕ) (rs : List Said) (rest : List ℕ) 
 abbrev pub RulesTold : List ℕ → ℕ → Got (List Said) → RulesAt → Type 0
 RulesTold s m g r = Told (λ (rs : List Said) (rest : List ℕ). RulesAre s m rs rest r) (r .number) g
 
--- ---- a problem: number 0 and the problem by value, or a refusal's number and a problem that is all zero
+-- ---- a problem: what was read, field by field
+abbrev pub acceptedAs : ℕ → ℕ → List ℕ → List ℤ → RulesAt → Reading
+acceptedAs n m sets weights r =
+    record {
+      number = 0;
+      problem = record {
+        n = n;
+        m = m;
+        sets = sets;
+        weights = weights;
+        kinds = r .kinds;
+        values = r .values;
+        slots = r .slots;
+        coefs = r .coefs;
+        lb = r .lb;
+        ub = r .ub;
+      };
+    }
+
+-- number 0 and the problem by value, or a refusal's number and a problem that is all zero
 abbrev pub readAs : Read → Reading
 readAs r = record { number = r .number; problem = held (r .problem) }

@@ -6,9 +6,10 @@ ghost use Rattle.laws.specs.Lists.{same};
 ghost use Rattle.meaning.specs.Problem.{version1};
 ghost use Rattle.meaning.specs.File.{refused, mark, problemNext, rulesNext, bodyNext, amongBody, sumBody};
 ghost use Rattle.meaning.specs.Calls.{readAnswer, read};
-ghost use Rattle.rtp.specs.Reading.{ruleNext, AmongTold, RuleTold, RulesTold, readAs};
+ghost use Rattle.rtp.specs.Reading.{ruleNext, AmongTold, RuleTold, RulesTold, acceptedAs, readAs};
 use cursor::Cursor;
 use problem::Problem;
+use problem::ROW;
 
 // The letters that a plan file begins with.
 pub const MARK: [u8; 3] = *b"RTP";
@@ -78,6 +79,21 @@ fn refused_rule(k: u32) -> RuleAt
     }
 }
 
+fn refused_rules(k: u32) -> RulesAt
+    ensures { λ r. ⌜ r .number ≡ k ⌝ }
+{
+    RulesAt {
+        number: k,
+        kinds: [0u8; 8],
+        values: [0u16; 8],
+        slots: [0u32; 8],
+        coefs: [0i32; 192],
+        lb: [0i32; 8],
+        ub: [0i32; 8],
+        next: Cursor { at: 0 },
+    }
+}
+
 fn refused(k: u32) -> Reading
     ensures { λ r. ⌜ r ≡ readAs (readAnswer (refused k)) ⌝ }
 {
@@ -94,6 +110,33 @@ fn refused(k: u32) -> Reading
             coefs: [0i32; 192],
             lb: [0i32; 8],
             ub: [0i32; 8],
+        },
+    }
+}
+
+// The problem of what was read.
+fn accepted(n: usize, m: usize, sets: [u16; 24], weights: [i32; 24], r: RulesAt) -> Reading
+    ensures { λ q. ⌜ q ≡ acceptedAs n m sets weights r ⌝ }
+{
+    let kinds = r.kinds;
+    let values = r.values;
+    let slots = r.slots;
+    let coefs = r.coefs;
+    let lb = r.lb;
+    let ub = r.ub;
+    Reading {
+        number: 0,
+        problem: Problem {
+            n: n,
+            m: m,
+            sets: sets,
+            weights: weights,
+            kinds: kinds,
+            values: values,
+            slots: slots,
+            coefs: coefs,
+            lb: lb,
+            ub: ub,
         },
     }
 }
@@ -188,18 +231,9 @@ fn rules_at(place: Cursor, s: &[u8], n: usize, m: usize) -> RulesAt
     let mut c = place;
     let mut k: usize = 0;
     while k < m {
-        let r = rule_at(c, s, n, &mut coefs, k * 24);
+        let r = rule_at(c, s, n, &mut coefs, k * ROW);
         if r.number != 0 {
-            return RulesAt {
-                number: r.number,
-                kinds: kinds,
-                values: values,
-                slots: slots,
-                coefs: coefs,
-                lb: lb,
-                ub: ub,
-                next: c,
-            };
+            return refused_rules(r.number);
         }
         kinds[k] = r.kind;
         values[k] = r.values;
@@ -253,27 +287,7 @@ fn sections(place: Cursor, s: &[u8], n: usize, m: usize) -> Reading
     if rules.next.left(s) != 0 {
         return refused(7);
     }
-    let kinds = rules.kinds;
-    let values = rules.values;
-    let slots = rules.slots;
-    let coefs = rules.coefs;
-    let lb = rules.lb;
-    let ub = rules.ub;
-    Reading {
-        number: 0,
-        problem: Problem {
-            n: n,
-            m: m,
-            sets: ss,
-            weights: ws,
-            kinds: kinds,
-            values: values,
-            slots: slots,
-            coefs: coefs,
-            lb: lb,
-            ub: ub,
-        },
-    }
+    accepted(n, m, ss, ws, rules)
 }
 
 // What a plan file says.

@@ -32,13 +32,16 @@ rule-at-requires c κs =
     let long = so-far-table (c .before .before .loop .inv .1) (c .before .loop-test .taken) in
     (c .before .before .before .before .pre .0, omega arith)
 
+refused-rules-requires : tie.Need-refused-rules-requires Inv-loop μ-loop
+refused-rules-requires c κs = search needs
+
 returns : tie.Need-returns Inv-loop μ-loop
 returns c =
-    let s = c .before .before .before .before .before .before .before .before in
-    let l = c .before .before .before .before .before .before .loop in
-    let r = c .before .before .before .rule-at in
-    let e = told-refused _ (ruleNext (s .args .n) (drop (l .c .at) (s .args .s .now))) (r .ensures) (c .if1 .taken) in
-    rw (so-far-refused (l .inv .1) (c .before .before .before .before .before .loop-test .taken) (e .0)) (refl, e .1)
+    let s = c .before .before .before .before .before .before .before .before .before in
+    let l = c .before .before .before .before .before .before .before .loop in
+    let r = c .before .before .before .before .rule-at in
+    let e = told-refused _ (ruleNext (s .args .n) (drop (l .c .at) (s .args .s .now))) (r .ensures) (c .before .if1 .taken) in
+    rw (so-far-refused (l .inv .1) (c .before .before .before .before .before .before .loop-test .taken) (e .0)) (c .refused-rules .ensures, e .1)
 
 array-write-kinds : tie.Need-array-write-kinds Inv-loop μ-loop
 array-write-kinds c = search needs
@@ -100,6 +103,7 @@ rules-at-spec =
     slice-aggregate-rule-at
     mul-rule-at
     rule-at-requires
+    refused-rules-requires
     returns
     array-write-kinds
     mul-values

@@ -243,17 +243,20 @@ returns-7 c =
     let more : length (g .rest) ≡ 0 → ⊥ = λ z. omega (arith, c .before .if7 .taken, c .before .before .left3 .ensures, length-drop (a .rules-at .result .next .at) (file p), ap length (g .holds .next)) in
     told-as (c .refused7 .ensures) (bytes-left (n p) (m p) (bytes p) (head-right p) (sets-there q) (sets-right r) (weights-there v) (weights-right w) (g .is) more)
 
+accepted-requires : tie.Need-accepted-requires
+accepted-requires c κs = search needs
+
 returns-8 : tie.Need-returns-8
 returns-8 c =
-    let a = c .before .before .before .before .before .before .before .before .before .before in
+    let a = c .before .before .before .before .before in
     let p = a .before .before .before .before .before .before .before .before .before .before .before .before .before .before .before in
     let q = a .before .before .before .before .before .before .before .before .before .before .before .before .before in
     let r = a .before .before .before .before .before .before .before .before in
     let v = a .before .before .before .before .before .before in
     let w = a .before in
-    let g = told-read (AreRules a) (rules-in a) (rules-told a) (c .before .before .before .before .before .before .before .before .if6 .left) in
-    let none : length (g .rest) ≡ 0 = omega (arith, c .before .before .before .before .before .before .before .left3 .ensures, c .before .before .before .before .before .before .if7 .left, length-drop (a .rules-at .result .next .at) (file p), ap length (g .holds .next)) in
-    told-as (same-reading (sym (length-fields little (n p) 1 (bytes p))) (sym (g .holds .count)) (r .before .before .before .before .sets .ensures .0) (a .before .before .before .before .before .weights .ensures .0 ∙ ap (padded 24 (pos 0)) (weights-are (a .before .before .before .before .before))) (g .holds .kinds) (g .holds .values) (g .holds .slots) (g .holds .coefs) (g .holds .lb) (g .holds .ub)) (accepted (n p) (m p) (bytes p) (head-right p) (sets-there q) (sets-right r) (weights-there v) (weights-right w) (g .is) none)
+    let g = told-read (AreRules a) (rules-in a) (rules-told a) (c .before .before .before .if6 .left) in
+    let none : length (g .rest) ≡ 0 = omega (arith, c .before .before .left3 .ensures, c .before .if7 .left, length-drop (a .rules-at .result .next .at) (file p), ap length (g .holds .next)) in
+    told-as (c .accepted .ensures ∙ same-reading (sym (length-fields little (n p) 1 (bytes p))) (sym (g .holds .count)) (r .before .before .before .before .sets .ensures .0) (a .before .before .before .before .before .weights .ensures .0 ∙ ap (padded 24 (pos 0)) (weights-are (a .before .before .before .before .before))) (g .holds .kinds) (g .holds .values) (g .holds .slots) (g .holds .coefs) (g .holds .lb) (g .holds .ub)) (accepted (n p) (m p) (bytes p) (head-right p) (sets-there q) (sets-right r) (weights-there v) (weights-right w) (g .is) none)
 
 pub sections-spec : {M : Type 1} → statement M
 sections-spec =
@@ -287,4 +290,5 @@ sections-spec =
     left-requires-3
     refused-requires-7
     returns-7
+    accepted-requires
     returns-8)
