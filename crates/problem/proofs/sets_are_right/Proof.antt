@@ -4,7 +4,7 @@ use borrow.Author.Tests.{eq-eqb, ne-eqb}
 use mathlib.Core.Bool.{not}
 use mathlib.Core.Path.{_≡_, refl, ap}
 use Prim.Native.Nat.{_-_}
-use lib.ListN.{length, drop}
+use lib.ListN.{length, getD, drop}
 use Rattle.laws.specs.Lists.{every}
 use Rattle.laws.proofs.Left.{every-goes, every-stops, every-ends}
 use Rattle.meaning.specs.Problem.{rightSet}
@@ -29,7 +29,9 @@ shared-slice-read-if1 c = search needs
 returns : tie.Need-returns Inv-loop μ-loop
 returns c =
     let l = c .before .before .before .loop in
-    every-stops rightSet _ 0 (l .i) (c .before .before .loop-test .taken) (ap not (eq-eqb _ _ (c .if1 .taken))) (l .inv)
+    let sets = c .before .before .before .before .args .sets .now in
+    let zero : getD sets (l .i) 0 ≡ 0 = c .if1 .taken in
+    every-stops rightSet sets 0 (l .i) (c .before .before .loop-test .taken) (ap not (eq-eqb (getD sets (l .i) 0) 0 zero)) (l .inv)
 
 add-i : tie.Need-add-i Inv-loop μ-loop
 add-i c = search needs
@@ -40,7 +42,9 @@ loop-less c = search needs
 loop-again : tie.Need-loop-again Inv-loop μ-loop
 loop-again c =
     let l = c .before .before .before .loop in
-    every-goes rightSet _ 0 (l .i) (c .before .before .loop-test .taken) (ap not (ne-eqb _ _ (c .if1 .left))) (l .inv)
+    let sets = c .before .before .before .before .args .sets .now in
+    let some : getD sets (l .i) 0 ≡ 0 → ⊥ = c .if1 .left in
+    every-goes rightSet sets 0 (l .i) (c .before .before .loop-test .taken) (ap not (ne-eqb (getD sets (l .i) 0) 0 some)) (l .inv)
 
 returns-2 : tie.Need-returns-2 Inv-loop μ-loop
 returns-2 c =
