@@ -26,6 +26,8 @@ def words(line):
     return [operation, name, first, *(store(p, "") for p in plans), "none", "none"][:5], f"{operation} {name} = {answer}"
 
 
+if len(sys.argv) != 2:
+    sys.exit(__doc__)
 with open(sys.argv[1]) as calls:
     recorded = [line for line in calls if line.split(" ")[0] in ("read", "judge", "better")]
 cut = [words(line) for line in recorded + lines]
