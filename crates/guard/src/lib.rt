@@ -7,7 +7,7 @@ ghost use lib.ListN.{length, take, drop};
 ghost use Rattle.meaning.specs.Problem.{stepCount, shareOf, firstFault};
 ghost use Rattle.meaning.specs.Running.{sizes, guard};
 ghost use Rattle.problem.specs.Held.{termsOf, campaignOf};
-ghost use Rattle.guard.specs.Size.{ShareSize, GreatestSize};
+ghost use Rattle.guard.specs.Size.{ShareSize, GreatestSize, guardIn};
 use problem::Problem;
 use problem::ROW;
 use problem::STEPS;
@@ -81,7 +81,7 @@ fn slot_sizes<'a>(
 }
 
 // 9 where the sum over the slots of the greatest size of a cost, or for some rule of a share, is above 2,000,000, else 0.
-pub fn guard_of(p: Problem) -> u32
+fn size_fault(p: Problem) -> u32
     requires { ⌜ (p .n ≤ 24) × (p .m ≤ 8) ⌝ }
     ensures { λ r. ⌜ r ≡ firstFault ((9, guard (campaignOf p)) ∷ []) ⌝ }
 {
@@ -101,4 +101,14 @@ pub fn guard_of(p: Problem) -> u32
         k += 1;
     }
     0
+}
+
+// The guard: 9 or 0. Where n or m is outside its range 4 stands before it, and it is 0.
+pub fn guard_of(p: Problem) -> u32
+    ensures { λ r. ⌜ r ≡ guardIn p ⌝ }
+{
+    if !problem::head_is_right(p.n, p.m) {
+        return 0;
+    }
+    size_fault(p)
 }
