@@ -10,7 +10,8 @@ use lib.ListN.{length, getD, set, take, drop, replicate, length-drop}
 use lib.IntN.{pos, negsuc}
 use lib.Seq.{getD-drop, drop-drop, paste}
 use Rattle.laws.specs.Lists.{same, parted, padded}
-use Rattle.laws.proofs.Filled.{padded-none, padded-paste, paste-field, length-fields}
+use Rattle.laws.proofs.Filled.{padded-none, padded-paste, paste-field}
+use Rattle.laws.proofs.Parts.{length-fields}
 use Rattle.meaning.specs.File.{little, belowHalf, signed}
 use Rattle.cursor.specs.Twos.{twosOf}
 

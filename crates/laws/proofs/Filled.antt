@@ -10,6 +10,7 @@ use lib.ListN.{length, getD, set, take, drop, replicate, length-map, length-appe
 use lib.Seq.{paste, paste-suc, drop-drop, take-take, take-append-le, drop-append-add, ext-getD, take-all, take-at, drop-at}
 use Rattle.laws.specs.Lists.{every, padded, parted, gather, from}
 use Rattle.laws.proofs.Lists.{getD-map, length-from, getD-from}
+use Rattle.laws.proofs.Parts.{length-fields}
 
 module _ {A : Type 0} (z : A) where
   pub length-padded : (n : ℕ) (l : List A) → length (padded n z l) ≡ n
@@ -74,16 +75,12 @@ module _ {A : Type 0} where
       let place : k + i * k ≡ suc i * k = omega (arith, suc-mul i k) in
       getD-parted n k i (drop k l) (le-of-suc-le-suc h) ∙ rw (drop-drop (i * k) k l, place) refl
 
-  pub length-parted : (n k : ℕ) (l : List A) → length (parted n k l) ≡ n
-  length-parted zero k l = refl
-  length-parted (suc n) k l = ap suc (length-parted n k (drop k l))
-
 -- a loop that reads n fields of k bytes: the next goes to its place
 pub paste-field : {A B : Type 0} (n k : ℕ) (g : List A → B) (l : List A) (d : List B) (z : B) (to i : ℕ) → to + i < length d → i < n
     → set (paste d to (map g (parted n k l)) i) (to + i) (g (take k (drop (i * k) l))) ≡ paste d to (map g (parted n k l)) (i + 1)
 paste-field n k g l d z to i h b =
-    let there : i < length (map g (parted n k l)) = omega (arith, length-map (parted n k l) g, length-parted n k l) in
-    let value : getD (map g (parted n k l)) i z ≡ g (take k (drop (i * k) l)) = getD-map g (parted n k l) i [] z (omega (arith, length-parted n k l)) ∙ ap g (getD-parted n k i l b) in
+    let there : i < length (map g (parted n k l)) = omega (arith, length-fields g n k l) in
+    let value : getD (map g (parted n k l)) i z ≡ g (take k (drop (i * k) l)) = getD-map g (parted n k l) i [] z (omega (arith, length-map (parted n k l) g, length-fields g n k l)) ∙ ap g (getD-parted n k i l b) in
     rw (← value, add-one) (paste-suc d to (map g (parted n k l)) i z h there)
 
 -- ---- what stands at a place
@@ -143,10 +140,6 @@ module _ {A B : Type 0} (g : A → List B) (w : ℕ) (wide : (x : A) → length 
 pub gather-more : {A B : Type 0} (g : A → List B) (l : List A) (x : A) → gather g (l ++ x ∷ []) ≡ gather g l ++ g x
 gather-more g [] x = append-nil (g x)
 gather-more g (y ∷ l) x = ap (λ r. g y ++ r) (gather-more g l x) ∙ sym (append-assoc (g y) (gather g l) (g x))
-
--- n fields of k bytes are n
-pub length-fields : {A B : Type 0} (g : List A → B) (n k : ℕ) (l : List A) → length (map g (parted n k l)) ≡ n
-length-fields g n k l = length-map (parted n k l) g ∙ length-parted n k l
 
 -- what was pasted, read back
 pub part-pasted : {A : Type 0} (d : List A) (at : ℕ) (s : List A) (n : ℕ) → at ≤ length d → length s ≡ n → take n (drop at (paste d at s n)) ≡ s

@@ -61,6 +61,11 @@ module _ {A : Type 0} (p : A → Bool) where
   every-drop (suc n) [] e = refl
   every-drop (suc n) (x ∷ l) e = every-drop n l (and-r (p x) (every p l) e)
 
+-- n fields of k elements are n
+pub length-fields : {A B : Type 0} (g : List A → B) (n k : ℕ) (l : List A) → length (map g (parted n k l)) ≡ n
+length-fields g zero k l = refl
+length-fields g (suc n) k l = ap suc (length-fields g n k (drop k l))
+
 -- the first of n + 1 parts, and the others
 first-long : {A : Type 0} (n k : ℕ) (l : List A) → length l ≡ suc n * k → (length (take k l) ≡ k) × (length (drop k l) ≡ n * k)
 first-long n k l e =
@@ -106,17 +111,13 @@ module _ {A B : Type 0} {q : B → Bool} {k : ℕ} {w : A → List B} {r : List 
       let l = first-long n k b e in
       and-both (g (r (take k b))) (every g (map r (parted n k (drop k b)))) (c .fits (take k b) (l .0) (every-take q k b h)) (gather-fits n (drop k b) (l .1) (every-drop q k b h))
 
-  count : (n : ℕ) (b : List B) → length (map r (parted n k b)) ≡ n
-  count zero b = refl
-  count (suc n) b = ap suc (count n (drop k b))
-
   pub code-fields : (n : ℕ) → Code q (n * k) (gather w) (λ (b : List B). map r (parted n k b)) (λ (l : List A). every g l && eqb (length l) n)
   code-fields n = record {
     long = λ l e. gather-long l (and-l (every g l) (eqb (length l) n) e) ∙ ap (λ (m : ℕ). m * k) (eqb-true (length l) n (and-r (every g l) (eqb (length l) n) e));
     low = gather-low;
     reads = λ l e. rw (← eqb-true (length l) n (and-r (every g l) (eqb (length l) n) e)) (gather-reads l (and-l (every g l) (eqb (length l) n) e));
     writes = gather-writes n;
-    fits = λ b e h. and-both (every g (map r (parted n k b))) (eqb (length (map r (parted n k b))) n) (gather-fits n b e h) (eq-eqb (length (map r (parted n k b))) n (count n b));
+    fits = λ b e h. and-both (every g (map r (parted n k b))) (eqb (length (map r (parted n k b))) n) (gather-fits n b e h) (eq-eqb (length (map r (parted n k b))) n (length-fields r n k b));
   }
 
 -- what stands behind n parts is not seen

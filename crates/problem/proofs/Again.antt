@@ -10,7 +10,8 @@ use Rattle.laws.specs.Z.{zarith, parts}
 use Rattle.laws.specs.Lists.{every, padded}
 use Rattle.laws.proofs.Lists.{getD-map}
 use Rattle.laws.proofs.Each.{Each, each-at, each-every}
-use Rattle.laws.proofs.Filled.{take-padded, length-padded, getD-padded, map-places, every-places, row-padded, length-fields}
+use Rattle.laws.proofs.Filled.{take-padded, length-padded, getD-padded, map-places, every-places, row-padded}
+use Rattle.laws.proofs.Parts.{length-fields}
 use Rattle.meaning.specs.Problem.{Terms, among, sums, Said, Format, version1, size, rightHead, rightSet, rightRule, firstFault, faultOf}
 use Rattle.meaning.specs.Problem as paper
 use Rattle.meaning.specs.File.{got, readOf, little, signed}

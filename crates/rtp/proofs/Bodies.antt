@@ -23,15 +23,16 @@ module _ (n k : ℕ) (g : List ℕ → Said) (b : List ℕ) where
   no-lead : k + 8 + 0 ≡ k + 8
   no-lead = omega arith
 
-  body-short : length b < k + 8 → bodyNext version1 n k g b ≡ refused 1
+  pub body-short : length b < k + 8 → bodyNext version1 n k g b ≡ refused 1
   body-short h = rw (no-lead, lt-leb (k + 8) (length b) h) refl
 
-  module _ (h : k + 8 ≤ length b) where
-    body-wrong : rightRule version1 n (g (take (k + 8) b)) ≡ false → bodyNext version1 n k g b ≡ refused 6
-    body-wrong e = rw (no-lead, le-leb (k + 8) (length b) h, e) refl
+  -- it is there, and says x; t is the test of its terms and its bounds
+  module _ (h : k + 8 ≤ length b) {x : Said} (is : g (take (k + 8) b) ≡ x) {t : Bool} (tested : rightRule version1 n x ≡ t) where
+    pub body-wrong : t ≡ false → bodyNext version1 n k g b ≡ refused 6
+    body-wrong e = rw (no-lead, le-leb (k + 8) (length b) h, ap (rightRule version1 n) is ∙ tested ∙ e) refl
 
-    body-right : rightRule version1 n (g (take (k + 8) b)) ≡ true → bodyNext version1 n k g b ≡ got (g (take (k + 8) b)) (drop (k + 8) b)
-    body-right e = rw (no-lead, le-leb (k + 8) (length b) h, e) refl
+    pub body-right : t ≡ true → bodyNext version1 n k g b ≡ got x (drop (k + 8) b)
+    body-right e = rw (no-lead, le-leb (k + 8) (length b) h, ap (rightRule version1 n) is ∙ tested ∙ e) (ap (λ (y : Said). got y (drop (k + 8) b)) is)
 
 -- its bounds stand behind the k bytes, and nothing behind them
 said-is : (k : ℕ) (t : Terms) (b : List ℕ) → k + 8 ≤ length b
@@ -45,64 +46,20 @@ said-is k t b h =
     rw (low, high, none) refl
 
 -- ---- among: S, the slots, lb, ub
-module _ (n : ℕ) (b : List ℕ) where
-  abbrev amongNext : Got Said
-  amongNext = bodyNext version1 n 5 (amongBody version1) b
-
-  abbrev amongSaid : Said
-  amongSaid = ruleSaid 1 (little (take 1 b)) (little (take 4 (drop 1 b))) [] (signed 4 (take 4 (drop 5 b))) (signed 4 (take 4 (drop 9 b)))
-
-  abbrev amongTest : Bool
-  amongTest = eqb (little (take 4 (drop 1 b)) / 2 ^ n) 0 && rightBounds (signed 4 (take 4 (drop 5 b))) (signed 4 (take 4 (drop 9 b)))
-
-  pub among-short : length b < 13 → amongNext ≡ refused 1
-  among-short h = body-short n 5 (amongBody version1) b h
-
-  module _ (h : 13 ≤ length b) where
-    among-is : amongBody version1 (take 13 b) ≡ amongSaid
-    among-is = rw (take-take 1 13 b (omega arith), take-within 1 4 13 b (omega arith)) (said-is 5 (among (little (take 1 b)) (little (take 4 (drop 1 b)))) b h)
-
-    among-tested : rightRule version1 n (amongBody version1 (take 13 b)) ≡ amongTest
-    among-tested = ap (rightRule version1 n) among-is ∙ rule-parts n 1 (little (take 1 b)) (little (take 4 (drop 1 b))) [] (signed 4 (take 4 (drop 5 b))) (signed 4 (take 4 (drop 9 b)))
-
-    pub among-wrong : amongTest ≡ false → amongNext ≡ refused 6
-    among-wrong e = body-wrong n 5 (amongBody version1) b h (among-tested ∙ e)
-
-    pub among-right : amongTest ≡ true → amongNext ≡ got amongSaid (drop 13 b)
-    among-right e = body-right n 5 (amongBody version1) b h (among-tested ∙ e) ∙ ap (λ (x : Said). got x (drop 13 b)) among-is
+pub among-is : (b : List ℕ) → 13 ≤ length b
+    → amongBody version1 (take 13 b) ≡ ruleSaid 1 (little (take 1 b)) (little (take 4 (drop 1 b))) [] (signed 4 (take 4 (drop 5 b))) (signed 4 (take 4 (drop 9 b)))
+among-is b h = rw (take-take 1 13 b (omega arith), take-within 1 4 13 b (omega arith)) (said-is 5 (among (little (take 1 b)) (little (take 4 (drop 1 b)))) b h)
 
 -- ---- sum: n coefficients, lb, ub
-module _ (n : ℕ) (b : List ℕ) where
-  abbrev sumNext : Got Said
-  sumNext = bodyNext version1 n (n * 2) (sumBody version1 n) b
+same-coefs : (n : ℕ) (b : List ℕ) → n * 2 + 8 ≤ length b → parted n 2 (take (n * 2 + 8) b) ≡ parted n 2 b
+same-coefs n b h =
+    parted-take n 2 (take (n * 2 + 8) b) (omega (arith, length-take (n * 2 + 8) b))
+    ∙ ap (parted n 2) (take-take (n * 2) (n * 2 + 8) b (omega arith))
+    ∙ sym (parted-take n 2 b (omega arith))
 
-  abbrev sumSaid : Said
-  sumSaid = ruleSaid 2 0 0 (map (signed 2) (parted n 2 b)) (signed 4 (take 4 (drop (n * 2) b))) (signed 4 (take 4 (drop (n * 2 + 4) b)))
-
-  abbrev sumTest : Bool
-  sumTest = every (size 1000) (map (signed 2) (parted n 2 b)) && rightBounds (signed 4 (take 4 (drop (n * 2) b))) (signed 4 (take 4 (drop (n * 2 + 4) b)))
-
-  pub sum-short : length b < n * 2 + 8 → sumNext ≡ refused 1
-  sum-short h = body-short n (n * 2) (sumBody version1 n) b h
-
-  module _ (h : n * 2 + 8 ≤ length b) where
-    same-coefs : parted n 2 (take (n * 2 + 8) b) ≡ parted n 2 b
-    same-coefs =
-        parted-take n 2 (take (n * 2 + 8) b) (omega (arith, length-take (n * 2 + 8) b))
-        ∙ ap (parted n 2) (take-take (n * 2) (n * 2 + 8) b (omega arith))
-        ∙ sym (parted-take n 2 b (omega arith))
-
-    sum-is : sumBody version1 n (take (n * 2 + 8) b) ≡ sumSaid
-    sum-is = rw same-coefs (said-is (n * 2) (sums (map (signed 2) (parted n 2 b))) b h)
-
-    sum-tested : rightRule version1 n (sumBody version1 n (take (n * 2 + 8) b)) ≡ sumTest
-    sum-tested = ap (rightRule version1 n) sum-is ∙ rule-parts n 2 0 0 (map (signed 2) (parted n 2 b)) (signed 4 (take 4 (drop (n * 2) b))) (signed 4 (take 4 (drop (n * 2 + 4) b)))
-
-    pub sum-wrong : sumTest ≡ false → sumNext ≡ refused 6
-    sum-wrong e = body-wrong n (n * 2) (sumBody version1 n) b h (sum-tested ∙ e)
-
-    pub sum-right : sumTest ≡ true → sumNext ≡ got sumSaid (drop (n * 2 + 8) b)
-    sum-right e = body-right n (n * 2) (sumBody version1 n) b h (sum-tested ∙ e) ∙ ap (λ (x : Said). got x (drop (n * 2 + 8) b)) sum-is
+pub sum-is : (n : ℕ) (b : List ℕ) → n * 2 + 8 ≤ length b
+    → sumBody version1 n (take (n * 2 + 8) b) ≡ ruleSaid 2 0 0 (map (signed 2) (parted n 2 b)) (signed 4 (take 4 (drop (n * 2) b))) (signed 4 (take 4 (drop (n * 2 + 4) b)))
+sum-is n b h = rw (same-coefs n b h) (said-is (n * 2) (sums (map (signed 2) (parted n 2 b))) b h)
 
 -- ---- a rule: the kind byte decides what follows
 module _ (n : ℕ) (s : List ℕ) (at : ℕ) where

@@ -1,7 +1,7 @@
 -- `among` meets its contract: what the four fields are, then each return by the tests that led there.
 use borrow.Author.Needs.{needs}
 use borrow.Author.Tests.{not-true, not-false}
-use mathlib.Core.Bool.{Bool}
+use mathlib.Core.Bool.{Bool, _&&_}
 use mathlib.Core.Path.{_≡_, refl, sym, ap, _∙_}
 use mathlib.Core.List.{List, []}
 use native.Mathlib.Omega.{arith}
@@ -13,10 +13,12 @@ use mir.Syntax.{w32}
 use mir.Val.{SFits, toZ, ofZ}
 use mir.Facts.{toZ-ofZ}
 use Rattle.laws.proofs.Lists.{and-false, and-both}
-use Rattle.meaning.specs.File.{little, signed}
-use Rattle.problem.proofs.Rules.{rightBounds, bounds-same}
+use Rattle.meaning.specs.Problem.{version1, rightRule}
+use Rattle.meaning.specs.File.{little, signed, amongBody}
+use Rattle.problem.specs.Held.{ruleSaid}
+use Rattle.problem.proofs.Rules.{rightBounds, bounds-same, rule-parts}
 use Rattle.cursor.proofs.Fields.{bytes-on}
-use Rattle.rtp.proofs.Bodies.{among-short, among-wrong, among-right}
+use Rattle.rtp.proofs.Bodies.{body-short, body-wrong, body-right, among-is}
 use Rattle.rtp.proofs.among.Statement.{statement}
 use Rattle.rtp.proofs.among.Tie as tie
 
@@ -37,8 +39,14 @@ module _ (c : tie.After-int2) where
   abbrev bounds : Bool
   bounds = rightBounds (signed 4 (take 4 (drop 5 body))) (signed 4 (take 4 (drop 9 body)))
 
+  abbrev named : Bool
+  named = eqb (little (take 4 (drop 1 body)) / 2 ^ count) 0
+
   whole : 13 ≤ length body
   whole = omega (arith, length-drop place file)
+
+  tested : rightRule version1 count (ruleSaid 1 (little (take 1 body)) (little (take 4 (drop 1 body))) [] (signed 4 (take 4 (drop 5 body))) (signed 4 (take 4 (drop 9 body)))) ≡ (named && bounds)
+  tested = rule-parts count 1 (little (take 1 body)) (little (take 4 (drop 1 body))) [] (signed 4 (take 4 (drop 5 body))) (signed 4 (take 4 (drop 9 body)))
 
   slots-is : c .before .before .word .result .value ≡ little (take 4 (drop 1 body))
   slots-is = c .before .before .word .ensures .0 ∙ bytes-on little 4 1 file place (c .before .before .before .set .ensures .1)
@@ -63,7 +71,7 @@ module _ (c : tie.After-int2) where
   ub-back = let fits : SFits w32 (c .int2 .result .value) = search needs in toZ-ofZ fits ∙ ub-is
 
 -- what the two tests say of them
-slots-tested : (c : tie.After-slots-are-right) → c .slots-are-right .result ≡ eqb (little (take 4 (drop 1 (body (c .before)))) / 2 ^ count (c .before)) 0
+slots-tested : (c : tie.After-slots-are-right) → c .slots-are-right .result ≡ named (c .before)
 slots-tested c = c .slots-are-right .ensures ∙ ap (λ (t : ℕ). eqb (t / 2 ^ count (c .before)) 0) (slots-is (c .before))
 
 bounds-tested : (c : tie.After-bounds-are-right) → c .bounds-are-right .result ≡ bounds (c .before .before .before .before .before)
@@ -81,7 +89,7 @@ returns : tie.Need-returns
 returns c =
     let s = c .before .before .before .before in
     let short : length (drop (s .args .place .at) (s .args .s .now)) < 13 = omega (arith, length-drop (s .args .place .at) (s .args .s .now)) in
-    λ to t. rw (among-short (s .args .n) (drop (s .args .place .at) (s .args .s .now)) short) (c .refused-rule .ensures, omega arith)
+    λ to t. rw (body-short (s .args .n) 5 (amongBody version1) (drop (s .args .place .at) (s .args .s .now)) short) (c .refused-rule .ensures, omega arith)
 
 set-requires : tie.Need-set-requires
 set-requires c κs = search needs
@@ -105,7 +113,7 @@ returns-2 : tie.Need-returns-2
 returns-2 c =
     let p = c .before .before .before in
     let no = sym (slots-tested (c .before .before)) ∙ not-true _ (c .before .if2 .taken) in
-    λ to t. rw (among-wrong (count p) (body p) (whole p) (rw no refl)) (c .refused-rule2 .ensures, omega arith)
+    λ to t. rw (body-wrong (count p) 5 (amongBody version1) (body p) (whole p) (among-is (body p) (whole p)) (tested p) (rw no refl)) (c .refused-rule2 .ensures, omega arith)
 
 bounds-are-right-requires : tie.Need-bounds-are-right-requires
 bounds-are-right-requires c κs = search needs
@@ -117,14 +125,14 @@ returns-3 : tie.Need-returns-3
 returns-3 c =
     let p = c .before .before .before .before .before .before .before in
     let no = sym (bounds-tested (c .before .before)) ∙ not-true _ (c .before .if3 .taken) in
-    λ to t. rw (among-wrong (count p) (body p) (whole p) (and-false (eqb (little (take 4 (drop 1 (body p))) / 2 ^ count p) 0) (bounds p) no)) (c .refused-rule3 .ensures, omega arith)
+    λ to t. rw (body-wrong (count p) 5 (amongBody version1) (body p) (whole p) (among-is (body p) (whole p)) (tested p) (and-false (named p) (bounds p) no)) (c .refused-rule3 .ensures, omega arith)
 
 returns-4 : tie.Need-returns-4
 returns-4 c =
     let p = c .before .before .before .before .before .before .before .before .before in
     let yes = sym (slots-tested (c .before .before .before .before .before .before .before .before)) ∙ not-false _ (c .before .before .before .before .before .before .before .if2 .left) in
     let bounded = sym (bounds-tested (c .before .before .before .before)) ∙ not-false _ (c .before .before .before .if3 .left) in
-    λ to t. rw (among-right (count p) (body p) (whole p) (and-both (eqb (little (take 4 (drop 1 (body p))) / 2 ^ count p) 0) (bounds p) yes bounded)) (
+    λ to t. rw (body-right (count p) 5 (amongBody version1) (body p) (whole p) (among-is (body p) (whole p)) (tested p) (and-both (named p) (bounds p) yes bounded)) (
       refl,
       record {
         kind = refl;

@@ -10,29 +10,17 @@ use lib.IntN.{ℤ, pos}
 use lib.ListN.{length, drop, length-drop}
 use lib.Seq.{drop-drop}
 use Rattle.laws.specs.Lists.{every, parted, padded}
-use Rattle.laws.proofs.Filled.{length-fields}
+use Rattle.laws.proofs.Parts.{length-fields}
 use Rattle.meaning.specs.Problem.{Said, size, rightHead, rightSet, version1}
-use Rattle.meaning.specs.File.{Got, little, signed, rulesNext}
+use Rattle.meaning.specs.File.{Got, got, little, signed, rulesNext}
+use Rattle.meaning.specs.Calls.{readAnswer}
 use Rattle.meaning.proofs.Faultless.{HeadRange, test-range}
 use Rattle.rtp.specs.declared.Reading.{Reading}
-use Rattle.rtp.specs.Reading.{Told, RulesAre}
+use Rattle.rtp.specs.Reading.{Told, RulesAre, acceptedAs, readAs}
 use Rattle.rtp.proofs.Rules.{told-read, told-refused}
 use Rattle.rtp.proofs.Whole.{told-as, part-long, part-whole, part-tested, sets, behindSets, weights, behindWeights, head-wrong, sets-short, sets-wrong, weights-short, weights-wrong, rules-refused, bytes-left, accepted}
 use Rattle.rtp.proofs.sections.Statement.{statement}
 use Rattle.rtp.proofs.sections.Tie as tie
-
-abbrev accept : ℕ → ℕ → List ℕ → List ℤ → List ℕ → List ℕ → List ℕ → List ℤ → List ℤ → List ℤ → Reading
-accept n m sets weights kinds values slots coefs lb ub =
-    record {
-      number = 0;
-      problem = record { n = n; m = m; sets = sets; weights = weights; kinds = kinds; values = values; slots = slots; coefs = coefs; lb = lb; ub = ub };
-    }
-
--- equal fields make equal answers
-same-reading : {n n′ m m′ : ℕ} {sets sets′ kinds kinds′ values values′ slots slots′ : List ℕ} {weights weights′ coefs coefs′ lb lb′ ub ub′ : List ℤ}
-    → n ≡ n′ → m ≡ m′ → sets ≡ sets′ → weights ≡ weights′ → kinds ≡ kinds′ → values ≡ values′ → slots ≡ slots′ → coefs ≡ coefs′ → lb ≡ lb′ → ub ≡ ub′
-    → accept n m sets weights kinds values slots coefs lb ub ≡ accept n′ m′ sets′ weights′ kinds′ values′ slots′ coefs′ lb′ ub′
-same-reading a b d e f g h i j k = cc
 
 -- past the head
 module _ (c : tie.Else1) where
@@ -57,19 +45,41 @@ module _ (c : tie.Else1) where
   range : HeadRange n m
   range = test-range n m head-right
 
+-- where the head was passed, seen from further on
+abbrev from-sets-there : tie.Else2 → tie.Else1
+from-sets-there c = c .before .before
+
+abbrev from-sets : tie.After-sets → tie.Else1
+from-sets c = c .before .before .before
+
+abbrev from-weights-there : tie.Else4 → tie.Else1
+from-weights-there c = c .before .before .before .before .before .before .before .before .before
+
+abbrev from-weights : tie.After-weights → tie.Else1
+from-weights c = c .before .before .before .before .before .before .before .before .before .before
+
+abbrev from-weights-tested : tie.After-weights-are-right → tie.Else1
+from-weights-tested c = c .before .before .before .before .before .before .before .before .before .before .before .before .before
+
+abbrev from-weights-right : tie.Else5 → tie.Else1
+from-weights-right c = c .before .before .before .before .before .before .before .before .before .before .before .before .before .before
+
+abbrev from-rules : tie.After-rules-at → tie.Else1
+from-rules c = c .before .before .before .before .before .before .before .before .before .before .before .before .before .before .before
+
 -- the step sets are there
 module _ (c : tie.Else2) where
-  sets-there : n (c .before .before) * 1 ≤ length (bytes (c .before .before))
-  sets-there = omega (arith, length-drop (place (c .before .before)) (file (c .before .before)))
+  sets-there : n (from-sets-there c) * 1 ≤ length (bytes (from-sets-there c))
+  sets-there = omega (arith, length-drop (place (from-sets-there c)) (file (from-sets-there c)))
 
 -- and were read
 module _ (c : tie.After-sets) where
   abbrev sets-in : List ℕ
-  sets-in = sets (n (c .before .before .before)) (m (c .before .before .before)) (bytes (c .before .before .before))
+  sets-in = sets (n (from-sets c)) (m (from-sets c)) (bytes (from-sets c))
 
-  behind-sets : drop (c .sets .result .next .at) (file (c .before .before .before)) ≡ behindSets (n (c .before .before .before)) (m (c .before .before .before)) (bytes (c .before .before .before))
+  behind-sets : drop (c .sets .result .next .at) (file (from-sets c)) ≡ behindSets (n (from-sets c)) (m (from-sets c)) (bytes (from-sets c))
   behind-sets =
-      let p = c .before .before .before in
+      let p = from-sets c in
       let on : c .sets .result .next .at ≡ place p + n p * 1 = omega arith in
       ap (λ (k : ℕ). drop k (file p)) on ∙ sym (drop-drop (n p * 1) (place p) (file p))
 
@@ -83,43 +93,43 @@ sets-right : (c : tie.Else3) → every rightSet (sets-in (c .before .before .bef
 sets-right c = sym (sets-tested (c .before)) ∙ not-false _ (c .if3 .left)
 
 -- the weights are there
-weights-there : (c : tie.Else4) → n (c .before .before .before .before .before .before .before .before .before) * 4 ≤ length (behindSets (n (c .before .before .before .before .before .before .before .before .before)) (m (c .before .before .before .before .before .before .before .before .before)) (bytes (c .before .before .before .before .before .before .before .before .before)))
-weights-there c = omega (arith, length-drop (c .before .before .before .before .before .before .sets .result .next .at) (file (c .before .before .before .before .before .before .before .before .before)), ap length (behind-sets (c .before .before .before .before .before .before)))
+weights-there : (c : tie.Else4) → n (from-weights-there c) * 4 ≤ length (behindSets (n (from-weights-there c)) (m (from-weights-there c)) (bytes (from-weights-there c)))
+weights-there c = omega (arith, length-drop (c .before .before .before .before .before .before .sets .result .next .at) (file (from-weights-there c)), ap length (behind-sets (c .before .before .before .before .before .before)))
 
 -- and were read
 module _ (c : tie.After-weights) where
   abbrev weights-in : List ℤ
-  weights-in = map (signed 4) (parted (n (c .before .before .before .before .before .before .before .before .before .before)) 4 (drop (c .before .before .before .before .before .before .before .sets .result .next .at) (file (c .before .before .before .before .before .before .before .before .before .before))))
+  weights-in = map (signed 4) (parted (n (from-weights c)) 4 (drop (c .before .before .before .before .before .before .before .sets .result .next .at) (file (from-weights c))))
 
-  weights-are : weights-in ≡ weights (n (c .before .before .before .before .before .before .before .before .before .before)) (m (c .before .before .before .before .before .before .before .before .before .before)) (bytes (c .before .before .before .before .before .before .before .before .before .before))
-  weights-are = ap (λ (t : List ℕ). map (signed 4) (parted (n (c .before .before .before .before .before .before .before .before .before .before)) 4 t)) (behind-sets (c .before .before .before .before .before .before .before))
+  weights-are : weights-in ≡ weights (n (from-weights c)) (m (from-weights c)) (bytes (from-weights c))
+  weights-are = ap (λ (t : List ℕ). map (signed 4) (parted (n (from-weights c)) 4 t)) (behind-sets (c .before .before .before .before .before .before .before))
 
-  behind-weights : drop (c .weights .result .next .at) (file (c .before .before .before .before .before .before .before .before .before .before)) ≡ behindWeights (n (c .before .before .before .before .before .before .before .before .before .before)) (m (c .before .before .before .before .before .before .before .before .before .before)) (bytes (c .before .before .before .before .before .before .before .before .before .before))
+  behind-weights : drop (c .weights .result .next .at) (file (from-weights c)) ≡ behindWeights (n (from-weights c)) (m (from-weights c)) (bytes (from-weights c))
   behind-weights =
-      let p = c .before .before .before .before .before .before .before .before .before .before in
+      let p = from-weights c in
       let at = c .before .before .before .before .before .before .before .sets .result .next .at in
       ap (λ (k : ℕ). drop k (file p)) (c .weights .ensures .1) ∙ sym (drop-drop (n p * 4) at (file p)) ∙ ap (drop (n p * 4)) (behind-sets (c .before .before .before .before .before .before .before))
 
 -- what was tested of them
-weights-tested : (c : tie.After-weights-are-right) → c .weights-are-right .result ≡ every (size 10000) (weights (n (c .before .before .before .before .before .before .before .before .before .before .before .before .before)) (m (c .before .before .before .before .before .before .before .before .before .before .before .before .before)) (bytes (c .before .before .before .before .before .before .before .before .before .before .before .before .before)))
+weights-tested : (c : tie.After-weights-are-right) → c .weights-are-right .result ≡ every (size 10000) (weights (n (from-weights-tested c)) (m (from-weights-tested c)) (bytes (from-weights-tested c)))
 weights-tested c =
     let w = c .before .before .before in
-    let p = c .before .before .before .before .before .before .before .before .before .before .before .before .before in
+    let p = from-weights-tested c in
     c .weights-are-right .ensures ∙ part-tested (pos 0) (weights-in w) (n p) (range p .most) (length-fields (signed 4) (n p) 4 _) (w .weights .ensures .0) (size 10000) ∙ ap (every (size 10000)) (weights-are w)
 
-weights-right : (c : tie.Else5) → every (size 10000) (weights (n (c .before .before .before .before .before .before .before .before .before .before .before .before .before .before)) (m (c .before .before .before .before .before .before .before .before .before .before .before .before .before .before)) (bytes (c .before .before .before .before .before .before .before .before .before .before .before .before .before .before))) ≡ true
+weights-right : (c : tie.Else5) → every (size 10000) (weights (n (from-weights-right c)) (m (from-weights-right c)) (bytes (from-weights-right c))) ≡ true
 weights-right c = sym (weights-tested (c .before)) ∙ not-false _ (c .if5 .left)
 
 -- the rules were read, or refused
 module _ (c : tie.After-rules-at) where
   abbrev rules-in : Got (List Said)
-  rules-in = rulesNext version1 (n (c .before .before .before .before .before .before .before .before .before .before .before .before .before .before .before)) (m (c .before .before .before .before .before .before .before .before .before .before .before .before .before .before .before)) (behindWeights (n (c .before .before .before .before .before .before .before .before .before .before .before .before .before .before .before)) (m (c .before .before .before .before .before .before .before .before .before .before .before .before .before .before .before)) (bytes (c .before .before .before .before .before .before .before .before .before .before .before .before .before .before .before)))
+  rules-in = rulesNext version1 (n (from-rules c)) (m (from-rules c)) (behindWeights (n (from-rules c)) (m (from-rules c)) (bytes (from-rules c)))
 
   abbrev AreRules : List Said → List ℕ → Type 0
-  AreRules rs rest = RulesAre (file (c .before .before .before .before .before .before .before .before .before .before .before .before .before .before .before)) (m (c .before .before .before .before .before .before .before .before .before .before .before .before .before .before .before)) rs rest (c .rules-at .result)
+  AreRules rs rest = RulesAre (file (from-rules c)) (m (from-rules c)) rs rest (c .rules-at .result)
 
   rules-told : Told AreRules (c .rules-at .result .number) rules-in
-  rules-told = subst (λ (t : List ℕ). Told AreRules (c .rules-at .result .number) (rulesNext version1 (n (c .before .before .before .before .before .before .before .before .before .before .before .before .before .before .before)) (m (c .before .before .before .before .before .before .before .before .before .before .before .before .before .before .before)) t)) (behind-weights (c .before .before .before .before .before)) (c .rules-at .ensures)
+  rules-told = subst (λ (t : List ℕ). Told AreRules (c .rules-at .result .number) (rulesNext version1 (n (from-rules c)) (m (from-rules c)) t)) (behind-weights (c .before .before .before .before .before)) (c .rules-at .ensures)
 
 head-is-right-requires : tie.Need-head-is-right-requires
 head-is-right-requires c κs = search needs
@@ -256,7 +266,22 @@ returns-8 c =
     let w = a .before in
     let g = told-read (AreRules a) (rules-in a) (rules-told a) (c .before .before .before .if6 .left) in
     let none : length (g .rest) ≡ 0 = omega (arith, c .before .before .left3 .ensures, c .before .if7 .left, length-drop (a .rules-at .result .next .at) (file p), ap length (g .holds .next)) in
-    told-as (c .accepted .ensures ∙ same-reading (sym (length-fields little (n p) 1 (bytes p))) (sym (g .holds .count)) (r .before .before .before .before .sets .ensures .0) (a .before .before .before .before .before .weights .ensures .0 ∙ ap (padded 24 (pos 0)) (weights-are (a .before .before .before .before .before))) (g .holds .kinds) (g .holds .values) (g .holds .slots) (g .holds .coefs) (g .holds .lb) (g .holds .ub)) (accepted (n p) (m p) (bytes p) (head-right p) (sets-there q) (sets-right r) (weights-there v) (weights-right w) (g .is) none)
+    let fields : acceptedAs (n p) (m p) _ _ (a .rules-at .result) ≡ readAs (readAnswer (got (record { sets = sets (n p) (m p) (bytes p); weights = weights (n p) (m p) (bytes p); rules = g .value }) (g .rest))) = λ i. record {
+      number = 0;
+      problem = record {
+        n = sym (length-fields little (n p) 1 (bytes p)) i;
+        m = sym (g .holds .count) i;
+        sets = r .before .before .before .before .sets .ensures .0 i;
+        weights = (a .before .before .before .before .before .weights .ensures .0 ∙ ap (padded 24 (pos 0)) (weights-are (a .before .before .before .before .before))) i;
+        kinds = g .holds .kinds i;
+        values = g .holds .values i;
+        slots = g .holds .slots i;
+        coefs = g .holds .coefs i;
+        lb = g .holds .lb i;
+        ub = g .holds .ub i;
+      };
+    } in
+    told-as (c .accepted .ensures ∙ fields) (accepted (n p) (m p) (bytes p) (head-right p) (sets-there q) (sets-right r) (weights-there v) (weights-right w) (g .is) none)
 
 pub sections-spec : {M : Type 1} → statement M
 sections-spec =

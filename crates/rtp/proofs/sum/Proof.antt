@@ -1,7 +1,7 @@
 -- `sum` meets its contract: what the coefficients and the bounds are, then each return by the tests that led there.
 use borrow.Author.Needs.{needs}
 use borrow.Author.Tests.{not-true, not-false}
-use mathlib.Core.Bool.{Bool}
+use mathlib.Core.Bool.{Bool, _&&_}
 use mathlib.Core.Path.{_≡_, refl, sym, ap, _∙_}
 use mathlib.Core.List.{List, map}
 use native.Mathlib.Omega.{arith}
@@ -13,13 +13,15 @@ use mir.Syntax.{w32}
 use mir.Val.{SFits, toZ, ofZ}
 use mir.Facts.{toZ-ofZ}
 use Rattle.laws.specs.Lists.{every, parted}
-use Rattle.laws.proofs.Filled.{part-pasted, length-fields}
+use Rattle.laws.proofs.Filled.{part-pasted}
+use Rattle.laws.proofs.Parts.{length-fields}
 use Rattle.laws.proofs.Lists.{and-false, and-both}
-use Rattle.meaning.specs.Problem.{size}
-use Rattle.meaning.specs.File.{signed}
-use Rattle.problem.proofs.Rules.{rightBounds, bounds-same}
+use Rattle.meaning.specs.Problem.{version1, size, rightRule}
+use Rattle.meaning.specs.File.{signed, sumBody}
+use Rattle.problem.specs.Held.{ruleSaid}
+use Rattle.problem.proofs.Rules.{rightBounds, bounds-same, rule-parts}
 use Rattle.cursor.proofs.Fields.{bytes-on}
-use Rattle.rtp.proofs.Bodies.{sum-short, sum-wrong, sum-right}
+use Rattle.rtp.proofs.Bodies.{body-short, body-wrong, body-right, sum-is}
 use Rattle.rtp.proofs.sum.Statement.{statement}
 use Rattle.rtp.proofs.sum.Tie as tie
 
@@ -45,6 +47,9 @@ module _ (c : tie.After-int2) where
 
   whole : count * 2 + 8 ≤ length body
   whole = omega (arith, length-drop place file)
+
+  tested : rightRule version1 count (ruleSaid 2 0 0 fields (signed 4 (take 4 (drop (count * 2) body))) (signed 4 (take 4 (drop (count * 2 + 4) body)))) ≡ (every (size 1000) fields && bounds)
+  tested = rule-parts count 2 0 0 fields (signed 4 (take 4 (drop (count * 2) body))) (signed 4 (take 4 (drop (count * 2 + 4) body)))
 
   lb-is : c .before .int .result .value ≡ signed 4 (take 4 (drop (count * 2) body))
   lb-is = c .before .int .ensures .0 ∙ bytes-on (signed 4) 4 (count * 2) file place (c .before .before .before .coefs .ensures .1)
@@ -96,7 +101,7 @@ returns : tie.Need-returns
 returns c =
     let s = c .before .before .before .before in
     let short : length (drop (s .args .place .at) (s .args .s .now)) < s .args .n * 2 + 8 = omega (arith, length-drop (s .args .place .at) (s .args .s .now)) in
-    rw (sum-short (s .args .n) (drop (s .args .place .at) (s .args .s .now)) short) (c .refused-rule .ensures, omega arith)
+    rw (body-short (s .args .n) (s .args .n * 2) (sumBody version1 (s .args .n)) (drop (s .args .place .at) (s .args .s .now)) short) (c .refused-rule .ensures, omega arith)
 
 coefs-requires : tie.Need-coefs-requires
 coefs-requires c κs = search needs
@@ -135,7 +140,7 @@ returns-2 : tie.Need-returns-2
 returns-2 c =
     let p = c .before .before .before .before .before in
     let no = sym (coefs-tested (c .before .before)) ∙ not-true _ (c .before .if2 .taken) in
-    rw (sum-wrong (count p) (body p) (whole p) (rw no refl)) (c .refused-rule2 .ensures, omega arith)
+    rw (body-wrong (count p) (count p * 2) (sumBody version1 (count p)) (body p) (whole p) (sum-is (count p) (body p) (whole p)) (tested p) (rw no refl)) (c .refused-rule2 .ensures, omega arith)
 
 bounds-are-right-requires : tie.Need-bounds-are-right-requires
 bounds-are-right-requires c κs = search needs
@@ -150,7 +155,7 @@ returns-3 : tie.Need-returns-3
 returns-3 c =
     let p = c .before .before .before .before .before .before .before .before .before in
     let no = sym (bounds-tested (c .before .before)) ∙ not-true _ (c .before .if3 .taken) in
-    rw (sum-wrong (count p) (body p) (whole p) (and-false (every (size 1000) (fields p)) (bounds p) no)) (c .refused-rule3 .ensures, omega arith)
+    rw (body-wrong (count p) (count p * 2) (sumBody version1 (count p)) (body p) (whole p) (sum-is (count p) (body p) (whole p)) (tested p) (and-false (every (size 1000) (fields p)) (bounds p) no)) (c .refused-rule3 .ensures, omega arith)
 
 same-length-3 : tie.Need-same-length-3
 same-length-3 c = search needs
@@ -160,7 +165,7 @@ returns-4 c =
     let p = c .before .before .before .before .before .before .before .before .before .before .before in
     let yes = sym (coefs-tested (c .before .before .before .before .before .before .before .before)) ∙ not-false _ (c .before .before .before .before .before .before .before .if2 .left) in
     let bounded = sym (bounds-tested (c .before .before .before .before)) ∙ not-false _ (c .before .before .before .if3 .left) in
-    rw (sum-right (count p) (body p) (whole p) (and-both (every (size 1000) (fields p)) (bounds p) yes bounded)) (
+    rw (body-right (count p) (count p * 2) (sumBody version1 (count p)) (body p) (whole p) (sum-is (count p) (body p) (whole p)) (tested p) (and-both (every (size 1000) (fields p)) (bounds p) yes bounded)) (
       refl,
       record {
         kind = refl;
