@@ -3,7 +3,6 @@ use mathlib.Core.Path.{_≡_, refl, sym, _∙_, ap}
 use mathlib.Core.List.{List, [], _∷_, map}
 use mathlib.Core.Bool.{Bool, true, false, _&&_, true≢false}
 use Prim.Native.Nat.{ℕ, suc, _+_, _-_, _≤_, _<_}
-use native.Mathlib.Nat.{sub-zero}
 use native.Mathlib.Numerals.{add-one}
 use native.Mathlib.Omega.{arith}
 use borrow.Author.Tests.{ltb-true}
@@ -16,6 +15,7 @@ use Rattle.laws.specs.Z.{zarith, sum}
 use Rattle.laws.specs.Lists.{every, from}
 use Rattle.laws.proofs.Lists.{and-l, and-r, and-false, no-true}
 use Rattle.laws.proofs.Each.{Each}
+use Rattle.laws.proofs.Left.{every-map}
 use Rattle.meaning.specs.Plan.{allows, allowed, bit, summed, keepsRule}
 use Rattle.meaning.specs.Problem.{stepCount, version1, Said, shareOf, ruleOf}
 use Rattle.problem.specs.Held.{saidAt, campaignOf}
@@ -71,54 +71,30 @@ module _ (k : ℕ) where
   wrong-length n sets plan few h = no-true (allowed k (take n sets) plan) (λ e. h (allowed-length (take n sets) plan e ∙ length-take-le n sets few))
 
 -- ---- the rules
-from-left : (k m : ℕ) → k < m → from k (m - k) ≡ k ∷ from (k + 1) (m - (k + 1))
-from-left k m h = let e : m - k ≡ suc (m - (k + 1)) = omega arith in rw (e, add-one)
-
 -- t is the total that the plan has by a rule that starts with none
 module _ (plan : List ℕ) (r : Said) (t : ℤ) (is : t ≡ summed (shareOf (r .terms)) 0 plan) (none : r .lead ≡ pos 0) where
   whole : r .lead +ℤ summed (shareOf (r .terms)) 0 plan ≡ t
   whole = rw (none, ← is) (omega (zarith, sum (pos 0) t))
 
-  rule-low : ltZ t (r .lb) ≡ true → keepsRule plan (ruleOf r) ≡ false
+  pub rule-low : ltZ t (r .lb) ≡ true → keepsRule plan (ruleOf r) ≡ false
   rule-low e = let f : leZ (r .lb) t ≡ false = omega zarith in rw (whole, f)
 
-  rule-high : ltZ (r .ub) t ≡ true → keepsRule plan (ruleOf r) ≡ false
+  pub rule-high : ltZ (r .ub) t ≡ true → keepsRule plan (ruleOf r) ≡ false
   rule-high e = let f : leZ t (r .ub) ≡ false = omega zarith in rw whole (and-false (leZ (r .lb) t) (leZ t (r .ub)) f)
 
-  rule-kept : ltZ t (r .lb) ≡ false → ltZ (r .ub) t ≡ false → keepsRule plan (ruleOf r) ≡ true
+  pub rule-kept : ltZ t (r .lb) ≡ false → ltZ (r .ub) t ≡ false → keepsRule plan (ruleOf r) ≡ true
   rule-kept e f =
       let a : leZ (r .lb) t ≡ true = omega zarith in
       let b : leZ t (r .ub) ≡ true = omega zarith in
       rw (whole, a, b)
 
--- all rules of a problem
-abbrev pub kept : List ℕ → Problem → Bool
-kept plan p = every (keepsRule plan) (campaignOf p .rules)
+-- rule k of a problem
+abbrev pub keptAt : List ℕ → Problem → ℕ → Bool
+keptAt plan p k = keepsRule plan (ruleOf (saidAt p k))
 
--- those from k on
-abbrev pub keptFrom : List ℕ → Problem → ℕ → Bool
-keptFrom plan p k = every (keepsRule plan) (map ruleOf (map (saidAt p) (from k (p .m - k))))
-
-module _ (plan : List ℕ) (p : Problem) where
-  pub rules-all : keptFrom plan p 0 ≡ kept plan p
-  rules-all = rw sub-zero
-
-  pub rules-done : (k : ℕ) → p .m ≤ k → keptFrom plan p k ≡ true
-  rules-done k h = let e : p .m - k ≡ 0 = omega arith in rw e
-
-  -- t is the total of rule k
-  module _ (k : ℕ) (h : k < p .m) (t : ℤ) (is : t ≡ summed (shareOf (saidAt p k .terms)) 0 plan) (left : keptFrom plan p k ≡ kept plan p) where
-    turn : (keepsRule plan (ruleOf (saidAt p k)) && keptFrom plan p (k + 1)) ≡ kept plan p
-    turn = rw (from-left k (p .m) h) at left
-
-    pub total-low : ltZ t (getD (p .lb) k (pos 0)) ≡ true → false ≡ kept plan p
-    total-low e = rw (rule-low plan (saidAt p k) t is refl e) at turn
-
-    pub total-high : ltZ (getD (p .ub) k (pos 0)) t ≡ true → false ≡ kept plan p
-    total-high e = rw (rule-high plan (saidAt p k) t is refl e) at turn
-
-    pub total-kept : ltZ t (getD (p .lb) k (pos 0)) ≡ false → ltZ (getD (p .ub) k (pos 0)) t ≡ false → keptFrom plan p (k + 1) ≡ kept plan p
-    total-kept e f = rw (rule-kept plan (saidAt p k) t is refl e f) at turn
+-- all of them
+pub kept-all : (plan : List ℕ) (p : Problem) → every (keepsRule plan) (campaignOf p .rules) ≡ every (keptAt plan p) (from 0 (p .m))
+kept-all plan p = every-map (keepsRule plan) ruleOf (map (saidAt p) (from 0 (p .m))) ∙ every-map (λ r. keepsRule plan (ruleOf r)) (saidAt p) (from 0 (p .m))
 
 -- ---- the plan of a problem without fault that has allowed steps alone
 pub allowed-steps : (p : Problem) (plan : List ℕ) → Right version1 p → length (p .sets) ≡ 24 → allowed stepCount (take (p .n) (p .sets)) plan ≡ true → (length plan ≡ p .n) × Steps plan

@@ -1,6 +1,6 @@
 -- A loop over a list: what is left to test, from place i on, decides as the whole did.
 use mathlib.Core.Path.{_≡_, refl, sym, ap, _∙_}
-use mathlib.Core.List.{List}
+use mathlib.Core.List.{List, [], _∷_, map}
 use mathlib.Core.Bool.{Bool, true, false, _&&_}
 use Prim.Native.Nat.{ℕ, _+_, _≤_, _<_}
 use native.Mathlib.Numerals.{add-one}
@@ -40,3 +40,8 @@ module _ (p : ℕ → Bool) (m : ℕ) where
 
   pub places-end : (k : ℕ) → m ≤ k → every p (from 0 m) ≡ every p (drop k (from 0 m)) → true ≡ every p (from 0 m)
   places-end k h e = every-ends p (from 0 m) 0 k (rw (length-from 0 m) h) e
+
+-- a test of what f makes of each
+pub every-map : {A B : Type 0} (p : B → Bool) (f : A → B) (l : List A) → every p (map f l) ≡ every (λ x. p (f x)) l
+every-map p f [] = refl
+every-map p f (x ∷ l) = ap (λ (b : Bool). p (f x) && b) (every-map p f l)

@@ -1,22 +1,20 @@
 -- What does the body of a rule say, and when is it refused?
 use mathlib.Core.Path.{_≡_, refl, sym, ap, _∙_}
 use mathlib.Core.List.{List, [], map}
-use mathlib.Core.Bool.{Bool, true, false, _&&_}
-use Prim.Native.Nat.{ℕ, _+_, _*_, _-_, _/_, _^_, _≤_, _<_}
+use mathlib.Core.Bool.{Bool, true, false}
+use Prim.Native.Nat.{ℕ, _+_, _*_, _-_, _≤_, _<_}
 use native.Mathlib.Omega.{arith}
 use borrow.Author.Tests.{le-leb, lt-leb, ne-eqb}
-use lib.Dec.{eqb}
 use lib.ListN.{length, take, drop, length-take, length-drop, drop-of-length-le}
 use lib.IntN.{pos}
 use lib.Seq.{drop-drop, take-take}
-use Rattle.laws.specs.Lists.{every, parted}
+use Rattle.laws.specs.Lists.{parted}
 use Rattle.laws.proofs.Parts.{parted-take}
 use Rattle.laws.proofs.Filled.{take-within}
-use Rattle.meaning.specs.Problem.{Said, Terms, among, sums, version1, size, rightRule}
-use Rattle.meaning.specs.File.{Got, refused, got, little, signed, saidOf, amongBody, sumBody, bodyNext, kindNext}
+use Rattle.meaning.specs.Problem.{Said, Terms, among, sums, version1, rightRule}
+use Rattle.meaning.specs.File.{refused, got, little, signed, saidOf, amongBody, sumBody, bodyNext, kindNext}
 use Rattle.rtp.specs.Reading.{ruleNext}
 use Rattle.problem.specs.Held.{ruleSaid}
-use Rattle.problem.proofs.Rules.{rightBounds, rule-parts}
 
 -- ---- any body of k bytes and the bounds
 module _ (n k : ℕ) (g : List ℕ → Said) (b : List ℕ) where

@@ -1,11 +1,13 @@
--- Each rule's total decides in turn. The invariant: the rules from k on decide.
-use mathlib.Core.Path.{_≡_, sym, _∙_}
+-- Each rule's total decides in turn. The invariant: the rules that are left, from k on, decide as all did.
+use mathlib.Core.Path.{_≡_, refl, sym, _∙_}
 use mathlib.Core.List.{List}
 use Prim.Native.Nat.{ℕ, _-_, _≤_, _<_}
 use native.Mathlib.Omega.{arith}
 use borrow.Author.Needs.{needs}
-use lib.ListN.{length, getD}
+use lib.ListN.{length, getD, drop}
 use lib.IntN.{ℤ, pos}
+use Rattle.laws.specs.Lists.{every, from}
+use Rattle.laws.proofs.Left.{places-go, places-stop, places-end}
 use Rattle.laws.specs.Z.{zarith, back, told, back-is}
 use Rattle.meaning.specs.Plan.{summed}
 use Rattle.meaning.specs.Problem.{version1, shareOf}
@@ -13,12 +15,12 @@ use Rattle.problem.specs.declared.Problem.{Problem}
 use Rattle.problem.specs.Held.{saidAt}
 use Rattle.problem.proofs.Arrays.{long}
 use Rattle.problem.proofs.Faultless.{right}
-use Rattle.judge.proofs.Lawful.{kept, keptFrom, rules-all, rules-done, total-low, total-high, total-kept}
+use Rattle.judge.proofs.Lawful.{keptAt, kept-all, rule-low, rule-high, rule-kept}
 use Rattle.judge.proofs.keeps_rules.Statement.{statement}
 use Rattle.judge.proofs.keeps_rules.Tie as tie
 
 abbrev Inv-loop : tie.InvT-loop
-Inv-loop plan p k₀ k = (p .m ≤ 8) × (length (p .coefs) ≡ 192) × (keptFrom plan p k ≡ kept plan p)
+Inv-loop plan p k₀ k = (p .m ≤ 8) × (length (p .coefs) ≡ 192) × (every (keptAt plan p) (from 0 (p .m)) ≡ every (keptAt plan p) (drop k (from 0 (p .m))))
 
 abbrev μ-loop : tie.MeasureT-loop
 μ-loop plan p k₀ k = p .m - k
@@ -26,7 +28,7 @@ abbrev μ-loop : tie.MeasureT-loop
 loop-holds : tie.Need-loop-holds Inv-loop μ-loop
 loop-holds c =
     let s = c .before in
-    (right version1 (s .args .t1) (s .pre .0) .head .rules, search long, rules-all (s .args .plan .now) (s .args .t1))
+    (right version1 (s .args .t1) (s .pre .0) .head .rules, search long, refl)
 
 element-copy-out-kind : tie.Need-element-copy-out-kind Inv-loop μ-loop
 element-copy-out-kind c = omega arith
@@ -79,7 +81,7 @@ module _ (c : tie.After-total-of Inv-loop μ-loop) where
   below : k < p .m
   below = c .before .before .before .before .before .before .before .before .before .loop-test .taken
 
-  left : keptFrom plan p k ≡ kept plan p
+  left : every (keptAt plan p) (from 0 (p .m)) ≡ every (keptAt plan p) (drop k (from 0 (p .m)))
   left = c .before .before .before .before .before .before .before .before .before .before .loop .inv .2
 
   abbrev t : ℤ
@@ -102,12 +104,14 @@ module _ (c : tie.After-total-of Inv-loop μ-loop) where
 returns : tie.Need-returns Inv-loop μ-loop
 returns c =
     let b = c .before in
-    total-low (plan b) (p b) (k b) (below b) (t b) (total b) (left b) (omega (zarith, c .if1 .taken, total-told b, lb-told b))
+    let no = rule-low (plan b) (saidAt (p b) (k b)) (t b) (total b) refl (omega (zarith, c .if1 .taken, total-told b, lb-told b)) in
+    places-stop (keptAt (plan b) (p b)) (p b .m) (k b) (below b) no (left b) ∙ sym (kept-all (plan b) (p b))
 
 returns-2 : tie.Need-returns-2 Inv-loop μ-loop
 returns-2 c =
     let b = c .before .before in
-    total-high (plan b) (p b) (k b) (below b) (t b) (total b) (left b) (omega (zarith, c .if2 .taken, total-told b, ub-told b))
+    let no = rule-high (plan b) (saidAt (p b) (k b)) (t b) (total b) refl (omega (zarith, c .if2 .taken, total-told b, ub-told b)) in
+    places-stop (keptAt (plan b) (p b)) (p b .m) (k b) (below b) no (left b) ∙ sym (kept-all (plan b) (p b))
 
 add-k : tie.Need-add-k Inv-loop μ-loop
 add-k c = omega arith
@@ -118,13 +122,14 @@ loop-less c = omega arith
 loop-again : tie.Need-loop-again Inv-loop μ-loop
 loop-again c =
     let b = c .before .before in
-    (search needs, search needs, total-kept (plan b) (p b) (k b) (below b) (t b) (total b) (left b) (omega (zarith, c .before .if1 .left, total-told b, lb-told b)) (omega (zarith, c .if2 .left, total-told b, ub-told b)))
+    let yes = rule-kept (plan b) (saidAt (p b) (k b)) (t b) (total b) refl (omega (zarith, c .before .if1 .left, total-told b, lb-told b)) (omega (zarith, c .if2 .left, total-told b, ub-told b)) in
+    (search needs, search needs, places-go (keptAt (plan b) (p b)) (p b .m) (k b) (below b) yes (left b))
 
 returns-3 : tie.Need-returns-3 Inv-loop μ-loop
 returns-3 c =
     let l = c .before .loop in
     let a = c .before .before .before .args in
-    sym (rules-done (a .plan .now) (a .t1) (l .k) (c .loop-test .left)) ∙ l .inv .2
+    places-end (keptAt (a .plan .now) (a .t1)) (a .t1 .m) (l .k) (c .loop-test .left) (l .inv .2) ∙ sym (kept-all (a .plan .now) (a .t1))
 
 pub keeps-rules-spec : {M : Type 1} → statement M
 keeps-rules-spec =

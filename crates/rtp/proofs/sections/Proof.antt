@@ -15,7 +15,6 @@ use Rattle.meaning.specs.Problem.{Said, size, rightHead, rightSet, version1}
 use Rattle.meaning.specs.File.{Got, got, little, signed, rulesNext}
 use Rattle.meaning.specs.Calls.{readAnswer}
 use Rattle.meaning.proofs.Faultless.{HeadRange, test-range}
-use Rattle.rtp.specs.declared.Reading.{Reading}
 use Rattle.rtp.specs.Reading.{Told, RulesAre, acceptedAs, readAs}
 use Rattle.rtp.proofs.Rules.{told-read, told-refused}
 use Rattle.rtp.proofs.Whole.{told-as, part-long, part-whole, part-tested, sets, behindSets, weights, behindWeights, head-wrong, sets-short, sets-wrong, weights-short, weights-wrong, rules-refused, bytes-left, accepted}
