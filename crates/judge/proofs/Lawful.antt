@@ -18,6 +18,7 @@ use Rattle.laws.proofs.Each.{Each}
 use Rattle.laws.proofs.Left.{every-map}
 use Rattle.meaning.specs.Plan.{allows, allowed, bit, summed, keepsRule}
 use Rattle.meaning.specs.Problem.{stepCount, version1, Said, shareOf, ruleOf}
+use Rattle.meaning.proofs.Order.{allowed-length}
 use Rattle.problem.specs.Held.{saidAt, campaignOf}
 use Rattle.problem.proofs.Faultless.{Right}
 use Rattle.judge.specs.Answers.{Steps}
@@ -25,12 +26,6 @@ use Rattle.problem.specs.declared.Problem.{Problem}
 
 -- ---- the slots
 module _ (k : ℕ) where
-  pub allowed-length : (ss p : List ℕ) → allowed k ss p ≡ true → length p ≡ length ss
-  allowed-length [] [] e = refl
-  allowed-length [] (v ∷ p) e = absurd (true≢false (sym e))
-  allowed-length (s ∷ ss) [] e = absurd (true≢false (sym e))
-  allowed-length (s ∷ ss) (v ∷ p) e = ap suc (allowed-length ss p (and-r (allows k s v) (allowed k ss p) e))
-
   pub allowed-below : (ss p : List ℕ) → allowed k ss p ≡ true → Each (λ v. v < k) p
   allowed-below [] [] e = tt
   allowed-below [] (v ∷ p) e = absurd (true≢false (sym e))
@@ -68,7 +63,7 @@ module _ (k : ℕ) where
 
   -- a plan of another length
   pub wrong-length : (n : ℕ) (sets plan : List ℕ) → n ≤ length sets → (length plan ≡ n → ⊥) → allowed k (take n sets) plan ≡ false
-  wrong-length n sets plan few h = no-true (allowed k (take n sets) plan) (λ e. h (allowed-length (take n sets) plan e ∙ length-take-le n sets few))
+  wrong-length n sets plan few h = no-true (allowed k (take n sets) plan) (λ e. h (allowed-length k (take n sets) plan e ∙ length-take-le n sets few))
 
 -- ---- the rules
 -- t is the total that the plan has by a rule that starts with none

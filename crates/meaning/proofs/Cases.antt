@@ -124,12 +124,15 @@ fileC =
     ∷ 2 ∷ 2 ∷ 0 ∷ 3 ∷ 0 ∷ 5 ∷ 0 ∷ 5 ∷ 0 ∷ 7 ∷ 0 ∷ 0 ∷ 0 ∷ 15 ∷ 0 ∷ 0 ∷ 0 ∷ []
 
 -- one slot: "ceiling 29,999 and one round: dual none"; no round drops nothing; "a plan that costs exactly the ceiling stays".
+-- C at width 1, ceiling 1: a round reckons "from the arcs present at its start", so that one round leaves the dual at −3 and two raise it to 1.
 -- C in pages of three: all ten plans; the fourth page says that there is no more, and no page before it
 abbrev further : List Bool
 further =
     says (dual one 1 1 (pos 29999)) none
     ∷ says (dual one 1 0 (pos 29999)) (some (pos 30000))
     ∷ says (dual one 1 1 (pos 30000)) (some (pos 30000))
+    ∷ says (dual C 1 1 (pos 1)) (some (negsuc 2))
+    ∷ says (dual C 1 2 (pos 1)) (some (pos 1))
     ∷ arePlans (drawn (replicate 4 3) C (pos limit) []) (lawfuls C)
     ∷ ending (replicate 4 3) C (pos limit) []
     ∷ not (ending (replicate 3 3) C (pos limit) [])

@@ -1,11 +1,12 @@
 -- In which order do the plans stand? Strictly in dictionary order, and every plan over the sets is there.
-use mathlib.Core.Path.{_≡_, refl, sym, _∙_}
+use mathlib.Core.Path.{_≡_, refl, sym, ap, _∙_}
 use mathlib.Core.List.{List, [], _∷_, _++_, map}
 use mathlib.Core.Bool.{true, false, _&&_, true≢false}
 use Prim.Native.Nat.{ℕ, zero, suc, _<_}
 use native.Mathlib.Omega.{arith}
 use native.Mathlib.Decide.{decLt}
 use lib.Dec.{eqb, ltb}
+use lib.ListN.{length}
 use borrow.Author.Tests.{ltb-true, lt-ltb, le-ltb, eq-eqb, ne-eqb}
 use Rattle.laws.specs.Lists.{every, gather, from}
 use Rattle.laws.proofs.Lists.{and-l, and-r, false-and, or-neither, no-true, In, here, in-map, in-made, every-append, Ordered, ordered-keep}
@@ -107,3 +108,10 @@ plans-in k (s ∷ ss) (v ∷ p) e =
 
 pub lawful-allowed : (q : Campaign) (p : List ℕ) → lawful q p ≡ true → allowed (q .steps) (q .sets) p ≡ true
 lawful-allowed q p e = and-l (allowed (q .steps) (q .sets) p) (every (keepsRule p) (q .rules)) e
+
+-- a plan over the sets has a step for each
+pub allowed-length : (k : ℕ) (ss p : List ℕ) → allowed k ss p ≡ true → length p ≡ length ss
+allowed-length k [] [] e = refl
+allowed-length k [] (v ∷ p) e = absurd (true≢false (sym e))
+allowed-length k (s ∷ ss) [] e = absurd (true≢false (sym e))
+allowed-length k (s ∷ ss) (v ∷ p) e = ap suc (allowed-length k ss p (and-r (allows k s v) (allowed k ss p) e))
