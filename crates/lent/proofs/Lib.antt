@@ -1,0 +1,27 @@
+-- What is true of diagrams in lent buffers.
+-- what stands at a place of a layer
+pub mod Places
+-- arcs with the same number of nodes in every layer
+pub mod Wide
+-- the closing sweep
+pub mod Swept
+-- numbers brought arc by arc
+pub mod Scatter
+-- states by first appearance
+pub mod FirstOrder
+-- the cheapest path
+pub mod Led
+-- how large campaigns and their numbers are
+pub mod Small
+pub mod Fit
+-- numbers as lanes
+pub mod Lanes
+pub mod Vec
+pub mod Downs
+pub mod Ups
+pub mod Cells
+pub mod Pass
+-- the layers of a whole diagram
+pub mod Whole
+-- demand 2, over files
+pub mod Demand

@@ -1,0 +1,1 @@
+// Laws of diagrams in lent buffers; no code.
