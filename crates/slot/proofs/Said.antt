@@ -1,0 +1,156 @@
+-- Is a slot's row of a problem without fault that of its campaign, and is that campaign small enough for lanes?
+use mathlib.Core.Path.{_≡_, refl, sym, ap, _∙_}
+use mathlib.Core.Logic.{_⊎_, ⊎-elim}
+use mathlib.Core.List.{List, [], _∷_, map}
+use mathlib.Core.Bool.{Bool, true, false, _&&_, cond}
+use Prim.Native.Nat.{ℕ, zero, suc, _+_, _*_, _/_, _%_, _^_, _<_}
+use native.Mathlib.Nat.{zero-add, zero-mul, div-eq-of-lt, one-le-pow, mod-lt}
+use native.Mathlib.Omega.{arith}
+use borrow.Author.Tests.{eqb-true, eqb-false}
+use lib.ListN.{length, getD, take, drop, length-map, length-take}
+use lib.Seq.{getD-take, getD-drop}
+use lib.IntN.{ℤ, pos, negℤ, _+ℤ_, _*ℤ_}
+use Rattle.laws.specs.Z.{zarith, sum, Within, mul-within}
+use Rattle.laws.specs.Lists.{gather, from, padded}
+use Rattle.laws.proofs.Lists.{length-from}
+use Rattle.laws.proofs.Each.{Each, each-of, each-at, each-from, each-map}
+use Rattle.meaning.specs.Plan.{Rule, bit}
+use Rattle.meaning.specs.Problem.{Terms, among, sums, version1, weighed, shareOf, ruleOf}
+use Rattle.meaning.proofs.Sizes.{either}
+use Rattle.meaning.proofs.Faultless.{RightTerms, RightFields}
+use Rattle.problem.specs.declared.Problem.{Problem}
+use Rattle.problem.specs.Held.{termsOf, saidAt, said, campaignOf}
+use Rattle.problem.proofs.Faultless.{Right}
+use Rattle.lent.specs.Vec.{arcVec, slotVec}
+use Rattle.lent.specs.Small.{Small}
+use Rattle.slot.specs.Rows.{coefPart, valuePart, coefParts, valueParts, laneOf, lanesOf, stepLanes, slotLanes, CoefsRight}
+
+-- ---- lists
+module _ {A B C : Type 0} where
+  pub map-map : (g : B → C) (f : A → B) (l : List A) → map g (map f l) ≡ map (λ x. g (f x)) l
+  map-map g f [] = refl
+  map-map g f (x ∷ l) = ap (λ (r : List C). g (f x) ∷ r) (map-map g f l)
+
+module _ {A : Type 0} (f g : ℕ → A) where
+  map-from : (k n : ℕ) → ((r : ℕ) → r < k + n → f r ≡ g r) → map f (from k n) ≡ map g (from k n)
+  map-from k zero h = refl
+  map-from k (suc n) h = rw (h k (omega arith)) (ap (λ (l : List A). g k ∷ l) (map-from (suc k) n (λ r b. h r (omega arith))))
+
+gather-same : {A B : Type 0} (f g : A → List B) → ((x : A) → f x ≡ g x) → (l : List A) → gather f l ≡ gather g l
+gather-same f g h [] = refl
+gather-same f g h (x ∷ l) = rw (h x, gather-same f g h l)
+
+-- ---- no rule: no share
+no-bit : (v : ℕ) → 0 / 2 ^ v % 2 ≡ 0
+no-bit v = ap (λ k. k % 2) (div-eq-of-lt (one-le-pow v 2 (omega arith)))
+
+no-lane : (v : ℕ) → laneOf (pos 0) 0 v ≡ pos 0
+no-lane v = rw (zero-mul v, no-bit v)
+
+no-lanes : (n v : ℕ) → lanesOf (padded n (pos 0) []) (padded n 0 []) v ≡ padded n (pos 0) []
+no-lanes zero v = refl
+no-lanes (suc n) v = rw (no-lane v, no-lanes n v)
+
+lanes-padded : (n v : ℕ) (f : ℕ → ℤ) (g : ℕ → ℕ) (l : List ℕ) → lanesOf (padded n (pos 0) (map f l)) (padded n 0 (map g l)) v ≡ padded n (pos 0) (map (λ r. laneOf (f r) (g r) v) l)
+lanes-padded zero v f g l = refl
+lanes-padded (suc n) v f g [] = no-lanes (suc n) v
+lanes-padded (suc n) v f g (r ∷ l) = ap (λ (m : List ℤ). laneOf (f r) (g r) v ∷ m) (lanes-padded n v f g l)
+
+turned-padded : (n : ℕ) (l : List ℤ) → map negℤ (padded n (pos 0) l) ≡ padded n (pos 0) (map negℤ l)
+turned-padded zero l = refl
+turned-padded (suc n) [] = ap (λ (m : List ℤ). pos 0 ∷ m) (turned-padded n [])
+turned-padded (suc n) (x ∷ l) = ap (λ (m : List ℤ). negℤ x ∷ m) (turned-padded n l)
+
+-- ---- a rule: its share by its parts
+bit-lane : (s t v i : ℕ) → laneOf (pos 0) (cond (bit t i) s 0) v ≡ cond (bit s v && bit t i) (pos 1) (pos 0)
+bit-lane s t v i = rw (zero-mul v) (go (bit t i) (bit s v) refl)
+  where
+    go : (a b : Bool) → bit s v ≡ b → pos 0 +ℤ pos (cond a s 0 / 2 ^ v % 2) ≡ cond (b && a) (pos 1) (pos 0)
+    go true true e = rw (eqb-true (s / 2 ^ v % 2) 1 e)
+    go true false e = let two : 0 < 2 = omega arith in let low : s / 2 ^ v % 2 ≡ 0 = omega (arith, mod-lt (s / 2 ^ v) two, eqb-false (s / 2 ^ v % 2) 1 e) in rw low
+    go false true e = rw (no-bit v)
+    go false false e = rw (no-bit v)
+
+sum-lane : (c : ℤ) (v : ℕ) → laneOf c 0 v ≡ c *ℤ pos v
+sum-lane c v = rw (no-bit v) (omega (zarith, sum (c *ℤ pos v) (pos 0)))
+
+module _ (kind values slots i v : ℕ) (coef : ℤ) (cs : List ℤ) (e : getD cs i (pos 0) ≡ coef) where
+  abbrev Lane : Type 0
+  Lane = laneOf (coefPart kind coef) (valuePart kind values slots i) v ≡ shareOf (termsOf kind values slots cs) i v
+
+  among-share : kind ≡ 1 → Lane
+  among-share k = rw k (bit-lane values slots v i)
+
+  sum-share : kind ≡ 2 → Lane
+  sum-share k = rw (k, ← e) (sum-lane (getD cs i (pos 0)) v)
+
+  share-lane : (kind ≡ 1) ⊎ (kind ≡ 2) → Lane
+  share-lane h = ⊎-elim among-share sum-share h
+
+-- ---- the problem
+module _ (p : Problem) (h : Right version1 p) (i : ℕ) (b : i < p .n) where
+  abbrev weight : ℤ
+  weight = getD (p .weights) i (pos 0)
+
+  weight-is : getD (take (p .n) (p .weights)) i (pos 0) ≡ weight
+  weight-is = getD-take (p .n) (p .weights) i (pos 0) b
+
+  coef-is : (r : ℕ) → getD (take (p .n) (drop (r * 24) (p .coefs))) i (pos 0) ≡ getD (p .coefs) (r * 24 + i) (pos 0)
+  coef-is r = getD-take (p .n) (drop (r * 24) (p .coefs)) i (pos 0) b ∙ getD-drop (r * 24) (p .coefs) i (pos 0)
+
+  pub said-slot : i < 24
+  said-slot = omega (arith, h .head .most)
+
+  pub said-weight : Within 10000 weight
+  said-weight = rw weight-is at (each-at (Within 10000) (take (p .n) (p .weights)) i (pos 0) (record { size = omega arith }) (h .weights))
+
+  pub said-coefs : CoefsRight (p .m) i (p .kinds) (p .coefs)
+  said-coefs = record {
+    at = λ r l k. rw (coef-is r) at (each-at (Within 1000) (take (p .n) (drop (r * 24) (p .coefs))) i (pos 0) (record { size = omega arith }) (h .rule r l .coefs k));
+  }
+
+  said-shares : (v : ℕ)
+      → map (λ r. r .share i v) (campaignOf p .rules)
+      ≡ map (λ r. laneOf (coefPart (getD (p .kinds) r 0) (getD (p .coefs) (r * 24 + i) (pos 0))) (valuePart (getD (p .kinds) r 0) (getD (p .values) r 0) (getD (p .slots) r 0) i) v) (from 0 (p .m))
+  said-shares v =
+      ap (map (λ (r : Rule). r .share i v)) (map-map ruleOf (saidAt p) (from 0 (p .m))) ∙ map-map (λ (r : Rule). r .share i v) (λ r. ruleOf (saidAt p r)) (from 0 (p .m))
+      ∙ map-from (λ r. ruleOf (saidAt p r) .share i v) (λ r. laneOf (coefPart (getD (p .kinds) r 0) (getD (p .coefs) (r * 24 + i) (pos 0))) (valuePart (getD (p .kinds) r 0) (getD (p .values) r 0) (getD (p .slots) r 0) i) v) 0 (p .m)
+      (λ r l.
+      sym (share-lane (getD (p .kinds) r 0) (getD (p .values) r 0) (getD (p .slots) r 0) i v (getD (p .coefs) (r * 24 + i) (pos 0)) (take (p .n) (drop (r * 24) (p .coefs))) (coef-is r)
+      (h .rule r (rw (zero-add (p .m)) at l) .kind)))
+
+  said-step : (v : ℕ) → stepLanes (coefParts (p .m) i (p .kinds) (p .coefs)) (valueParts (p .m) i (p .kinds) (p .values) (p .slots)) weight v ≡ arcVec (campaignOf p) i v
+  said-step v =
+      let f : ℕ → ℤ = λ r. coefPart (getD (p .kinds) r 0) (getD (p .coefs) (r * 24 + i) (pos 0)) in
+      let g : ℕ → ℕ = λ r. valuePart (getD (p .kinds) r 0) (getD (p .values) r 0) (getD (p .slots) r 0) i in
+      let low = lanes-padded 8 v f g (from 0 (p .m)) in
+      rw (low, said-shares v, turned-padded 8 (map (λ r. laneOf (f r) (g r) v) (from 0 (p .m))), weight-is)
+
+  -- the row of lanes is the campaign's
+  pub said-row : slotLanes (p .m) i weight (p .kinds) (p .values) (p .slots) (p .coefs) ≡ slotVec (campaignOf p) i
+  said-row = gather-same (stepLanes (coefParts (p .m) i (p .kinds) (p .coefs)) (valueParts (p .m) i (p .kinds) (p .values) (p .slots)) weight) (arcVec (campaignOf p) i) said-step (from 0 8)
+
+-- ---- small enough
+weighed-within : (m : ℕ) (c : List ℤ) → Each (Within m) c → (i v : ℕ) → v < 8 → Within (m * 7) (weighed c i v)
+weighed-within m c h i v l = mul-within (each-at (Within m) c i (pos 0) (record { size = omega arith }) h) (omega arith)
+
+terms-share : (n : ℕ) (t : Terms) → RightTerms version1 n t → (i v : ℕ) → v < 8 → Within 7000 (shareOf t i v)
+terms-share n (among s t) h i v l = either (bit s v && bit t i) (record { size = omega arith }) (record { size = omega arith })
+terms-share n (sums c) h i v l = weighed-within 1000 c h i v l
+
+pub rules-long : (p : Problem) → length (campaignOf p .rules) ≡ p .m
+rules-long p = length-map (map (saidAt p) (from 0 (p .m))) ruleOf ∙ length-map (from 0 (p .m)) (saidAt p) ∙ length-from 0 (p .m)
+
+pub said-small : (p : Problem) → Right version1 p → Small (campaignOf p)
+said-small p h =
+    let rules = said p .rules in
+    let right : Each (RightFields version1 (p .n)) rules = each-map (λ r. r < p .m) (RightFields version1 (p .n)) (saidAt p) (λ r l. h .rule r l .fields) (from 0 (p .m)) (each-from (λ r. r < p .m) 0 (p .m) (λ r l. rw (zero-add (p .m)) at l)) in
+    record {
+      steps = refl;
+      slots = omega (arith, length-take (p .n) (p .sets), h .head .most);
+      rules = omega (arith, rules-long p, h .head .rules);
+      shares = each-map (RightFields version1 (p .n)) (λ r. (i v : ℕ) → v < 8 → Within 7000 (r .share i v)) ruleOf (λ r f. terms-share (p .n) (r .terms) (f .terms)) rules right;
+      prices = weighed-within 10000 (take (p .n) (p .weights)) (h .weights);
+      starts = each-map (λ r. r .lead ≡ pos 0) (λ r. r .start ≡ pos 0) ruleOf (λ r e. e) rules (each-map (λ r. Unit {0}) (λ r. r .lead ≡ pos 0) (saidAt p) (λ r u. refl) (from 0 (p .m)) (each-of (λ r. Unit {0}) (λ r. tt) (from 0 (p .m))));
+      bounds = each-map (RightFields version1 (p .n)) (λ r. Within 200000 (r .lb) × Within 200000 (r .ub)) ruleOf (λ r f. (f .low, f .high)) rules right;
+    }

@@ -1,0 +1,2 @@
+-- What a slot's row means.
+pub mod Rows
