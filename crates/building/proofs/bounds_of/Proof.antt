@@ -1,0 +1,67 @@
+-- `bounds_of` meets its contract: a turn stores one rule's bounds.
+use mathlib.Core.Path.{refl}
+use Prim.Native.Nat.{_-_}
+use native.Mathlib.Omega.{arith}
+use borrow.Author.Needs.{needs}
+use Rattle.meaning.specs.Problem.{version1}
+use Rattle.problem.proofs.Faultless.{right}
+use Rattle.building.proofs.Bounds.{Bounded, bounded-more, bounded-end}
+use Rattle.building.proofs.bounds_of.Statement.{statement}
+use Rattle.building.proofs.bounds_of.Tie as tie
+
+abbrev Inv-loop : tie.InvT-loop
+Inv-loop p s₀ r₀ s r = Bounded p (s .at) r
+
+abbrev μ-loop : tie.MeasureT-loop
+μ-loop p s₀ r₀ s r = p .m - r
+
+loop-holds : tie.Need-loop-holds Inv-loop μ-loop
+loop-holds c = record { right = right version1 (c .args .t1) (c .pre); low = omega arith; is = refl }
+
+mul-lb : tie.Need-mul-lb Inv-loop μ-loop
+mul-lb c = search needs
+
+element-copy-out-lb : tie.Need-element-copy-out-lb Inv-loop μ-loop
+element-copy-out-lb c = omega (arith, c .before .loop .inv .right .head .rules)
+
+mul-ub : tie.Need-mul-ub Inv-loop μ-loop
+mul-ub c = search needs
+
+element-copy-out-ub : tie.Need-element-copy-out-ub Inv-loop μ-loop
+element-copy-out-ub c = omega (arith, c .before .before .loop .inv .right .head .rules)
+
+mul-t9 : tie.Need-mul-t9 Inv-loop μ-loop
+mul-t9 c = search needs
+
+element-set-from-s : tie.Need-element-set-from-s Inv-loop μ-loop
+element-set-from-s c = omega (arith, c .before .before .before .loop .inv .right .head .rules)
+
+add-r : tie.Need-add-r Inv-loop μ-loop
+add-r c = search needs
+
+loop-less : tie.Need-loop-less Inv-loop μ-loop
+loop-less c = search needs
+
+loop-again : tie.Need-loop-again Inv-loop μ-loop
+loop-again c = bounded-more (c .before .before .before .loop .inv) _ (c .before .before .loop-test .taken) refl
+
+returns : tie.Need-returns Inv-loop μ-loop
+returns c = bounded-end (c .before .loop .inv) (c .loop-test .left)
+
+pub bounds-of-spec : {M : Type 1} → statement M
+bounds-of-spec =
+    tie.close
+    (tie.spec
+    Inv-loop
+    μ-loop
+    loop-holds
+    mul-lb
+    element-copy-out-lb
+    mul-ub
+    element-copy-out-ub
+    mul-t9
+    element-set-from-s
+    add-r
+    loop-less
+    loop-again
+    returns)

@@ -1,0 +1,2 @@
+-- What a layer is in a row of numbers and in bytes.
+pub mod Layers

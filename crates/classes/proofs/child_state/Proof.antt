@@ -1,0 +1,26 @@
+-- `child_state` meets its contract: a node's totals and a step's shares.
+use borrow.Author.Needs.{needs}
+use Rattle.classes.proofs.Children.{parent-fits, shares-place, shares-fit}
+use Rattle.classes.proofs.child_state.Statement.{statement}
+use Rattle.classes.proofs.child_state.Tie as tie
+
+mul-taken : tie.Need-mul-taken
+mul-taken c = search needs
+
+taken-requires : tie.Need-taken-requires
+taken-requires c κs = search needs
+
+mul-child : tie.Need-mul-child
+mul-child c = search needs
+
+child-requires : tie.Need-child-requires
+child-requires c κs =
+    let held = c .before .pre .0 in
+    let f = c .before .args .f in
+    (shares-place held f, rw (c .taken .ensures) (parent-fits held f), shares-fit held f)
+
+returns : tie.Need-returns
+returns c = rw (← c .before .taken .ensures) (c .child .ensures)
+
+pub child-state-spec : {M : Type 1} → statement M
+child-state-spec = tie.close (tie.spec mul-taken taken-requires mul-child child-requires returns)

@@ -1,0 +1,2 @@
+-- What the classes of a layer's children are.
+pub mod Classes

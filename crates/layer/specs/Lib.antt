@@ -1,0 +1,2 @@
+-- What the places of a layer are.
+pub mod Places

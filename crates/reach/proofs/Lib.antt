@@ -1,0 +1,4 @@
+-- Why the table of reaches holds them.
+pub mod Spans
+pub mod Table
+pub mod Turn

@@ -1,0 +1,2 @@
+-- What the table of reaches holds.
+pub mod Spans

@@ -1,0 +1,107 @@
+-- `state::taken` meets its contract. Assumes nothing.
+use Prim.Native.Nat.{_+_, _*_, _≤_, _-_}
+use mathlib.Core.Path.{_≡_, refl, sym, _∙_}
+use native.Mathlib.Omega.{arith}
+use lib.IntN.{pos}
+use lib.ListN.{getD, take, drop, replicate}
+use Rattle.laws.specs.Z.{told}
+use Rattle.state.specs.Pairs.{pairOf, pairs, paired}
+use borrow.Author.Needs.{needs}
+use Rattle.state.proofs.Joined.{noPair}
+use Rattle.state.proofs.Turns.{filled, filled-all, stored, row-long}
+use Rattle.state.proofs.Rows.{paired-length, taken-at}
+use Rattle.state.proofs.taken.Statement.{statement}
+use Rattle.state.proofs.taken.Tie as tie
+
+abbrev Inv-loop : tie.InvT-loop
+Inv-loop row at s₀ k₀ s k = (k ≤ 8) × (pairs s ≡ filled k (paired (take 16 (drop at row))) (pairs s₀))
+
+abbrev μ-loop : tie.MeasureT-loop
+μ-loop row at s₀ k₀ s k = 8 - k
+
+loop-holds : tie.Need-loop-holds Inv-loop μ-loop
+loop-holds c = (omega arith, refl)
+
+mul-lo : tie.Need-mul-lo Inv-loop μ-loop
+mul-lo c = search needs
+
+add-lo : tie.Need-add-lo Inv-loop μ-loop
+add-lo c = search needs
+
+mul-lo-2 : tie.Need-mul-lo-2 Inv-loop μ-loop
+mul-lo-2 c = search needs
+
+shared-slice-copy-out-lo : tie.Need-shared-slice-copy-out-lo Inv-loop μ-loop
+shared-slice-copy-out-lo c = search needs
+
+mul-hi : tie.Need-mul-hi Inv-loop μ-loop
+mul-hi c = search needs
+
+add-hi : tie.Need-add-hi Inv-loop μ-loop
+add-hi c = search needs
+
+add-hi-2 : tie.Need-add-hi-2 Inv-loop μ-loop
+add-hi-2 c = search needs
+
+mul-hi-2 : tie.Need-mul-hi-2 Inv-loop μ-loop
+mul-hi-2 c = search needs
+
+shared-slice-copy-out-hi : tie.Need-shared-slice-copy-out-hi Inv-loop μ-loop
+shared-slice-copy-out-hi c = search needs
+
+mul-t10 : tie.Need-mul-t10 Inv-loop μ-loop
+mul-t10 c = search needs
+
+element-set-from-s : tie.Need-element-set-from-s Inv-loop μ-loop
+element-set-from-s c = search needs
+
+add-k : tie.Need-add-k Inv-loop μ-loop
+add-k c = search needs
+
+loop-less : tie.Need-loop-less Inv-loop μ-loop
+loop-less c = search needs
+
+loop-again : tie.Need-loop-again Inv-loop μ-loop
+loop-again c =
+    let a = c .before .before .before .before .args in
+    let head = c .before .before .before .loop in
+    let row = a .row .now in
+    let lo = getD row (a .at + 2 * head .k) (pos 0) in
+    let hi = getD row (a .at + 2 * head .k + 1) (pos 0) in
+    let long = row-long row (a .at) 16 (omega arith) in (
+      omega arith,
+      rw (told lo (c .before .lo .given), told hi (c .hi .given))
+          (stored pairOf (head .s .at) (head .k) (record { lo = lo; hi = hi }) (paired (take 16 (drop (a .at) row))) (replicate 8 noPair) noPair
+          (omega (arith, paired-length (take 16 (drop (a .at) row)) 8 long)) (omega arith) (head .inv .1) (sym (taken-at row (a .at) (head .k) (omega arith) (omega arith)))),
+    )
+
+returns : tie.Need-returns Inv-loop μ-loop
+returns c =
+    let a = c .before .before .args in
+    let head = c .before .loop in
+    let r = take 16 (drop (a .at) (a .row .now)) in
+    let long = row-long (a .row .now) (a .at) 16 (omega arith) in
+    head .inv .1 ∙ filled-all (head .k) (paired r) (replicate 8 noPair) (omega (arith, paired-length r 8 long)) (omega arith)
+
+pub taken-spec : {M : Type 1} → statement M
+taken-spec =
+    tie.close
+    (tie.spec
+    Inv-loop
+    μ-loop
+    loop-holds
+    mul-lo
+    add-lo
+    mul-lo-2
+    shared-slice-copy-out-lo
+    mul-hi
+    add-hi
+    add-hi-2
+    mul-hi-2
+    shared-slice-copy-out-hi
+    mul-t10
+    element-set-from-s
+    add-k
+    loop-less
+    loop-again
+    returns)

@@ -1,0 +1,2 @@
+-- What a state by value means.
+pub mod Pairs
