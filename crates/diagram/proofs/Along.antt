@@ -1,0 +1,301 @@
+-- Do the cells lead along the plan shown? Each arc that the sweep leaves leads to a node that is present, whose cells hold its cost up.
+use mathlib.Core.Path.{_≡_, refl, sym, _∙_, ap, subst}
+use mathlib.Core.List.{List, [], _∷_, tail}
+use mathlib.Core.Bool.{Bool, true, false, cond, true≢false}
+use mathlib.Core.Option.{none, some, Option·none-ne-some}
+use Prim.Native.Nat.{ℕ, zero, suc, _+_, _*_, _-_, _≤_, _<_}
+use native.Mathlib.Omega.{arith}
+use native.Mathlib.Nat.{zero-add, add-zero, suc-mul, add-mul, mul-assoc, mul-le-mul-right}
+use native.Mathlib.Numerals.{add-one}
+use borrow.Author.Tests.{eqb-true, eq-eqb}
+use lib.Dec.{eqb}
+use lib.ListN.{length, getD, take, drop, length-take, length-drop, List·getD-map}
+use lib.Seq.{drop-cons, getD-drop, getD-take}
+use lib.IntN.{ℤ, pos, _*ℤ_}
+use Rattle.laws.specs.Z.{Within}
+use Rattle.laws.proofs.Filled.{length-padded}
+use Rattle.laws.proofs.Lists.{and-l, and-r}
+use Rattle.laws.proofs.Each.{Each, each-at, each-more, each-take, each-drop}
+use Rattle.meaning.specs.Plan.{Campaign, slots}
+use Rattle.meaning.specs.Diagram.{State, Arcs}
+use Rattle.meaning.specs.Filter.{Numbers, meet, over, upNode, downNode, downAt, nodeCount, downs, begins, downNumbers, upNumbers, swept}
+use Rattle.meaning.specs.Bound.{along, walks, arcAt, passes}
+use Rattle.meaning.specs.Buffers.{cellsNeed, nodeNeed, nodeCells, numberCells}
+use Rattle.meaning.proofs.Walks.{next, walk-there}
+use Rattle.meaning.proofs.Keeps.{Cover, ups-cover}
+use Rattle.meaning.proofs.Attains.{swept-arc}
+use Rattle.lent.specs.Wide.{laid, Sized}
+use Rattle.lent.specs.Small.{Small, Fit}
+use Rattle.lent.specs.Led.{costOf, firstStep, firstUps, led}
+use Rattle.lent.proofs.Places.{made-at, nextDowns}
+use Rattle.lent.proofs.Led.{ups-at, Step, node-step}
+use Rattle.diagram.specs.Answers.{firstCell, Led}
+use Rattle.diagram.proofs.Table.{each-below, bytes-at}
+use Rattle.diagram.proofs.Shape.{Form, Shaped}
+use Rattle.diagram.proofs.Cells.{downAt as downOf, upAt, cost-up, source-begins, down-fits, up-fits, cell-at, cells-inside}
+
+-- ---- a node has numbers
+pub record Has (n : Numbers) : Type 0 where
+  pub value : State × ℤ
+  pub is : n ≡ some value
+
+none-has : Has none → ⊥
+none-has h = Option·none-ne-some (h .value) (h .is)
+
+meet-l : (n m : Numbers) → Has n → Has (meet n m)
+meet-l none m h = absurd (none-has h)
+meet-l (some a) none h = h
+meet-l (some a) (some b) h = record { value = _; is = refl }
+
+meet-r : (n m : Numbers) → Has m → Has (meet n m)
+meet-r none m h = h
+meet-r (some a) none h = absurd (none-has h)
+meet-r (some a) (some b) h = record { value = _; is = refl }
+
+over-has : (q : Campaign) (i v : ℕ) (n : Numbers) → Has n → Has (over q i v n)
+over-has q i v none h = absurd (none-has h)
+over-has q i v (some a) h = record { value = _; is = refl }
+
+cover-has : (n : Numbers) (t : State) (c : ℤ) → Cover n t c → Has n
+cover-has none t c h = absurd h
+cover-has (some a) t c h = record { value = a; is = refl }
+
+-- ---- down: an arc from a node that has numbers brings some to its child
+module _ (q : Campaign) (i k : ℕ) where
+  node-brings : (d : Numbers) (bs : List ℕ) (u v : ℕ) → getD bs v 0 ≡ suc k → Has d → Has (downNode q i k d u bs)
+  node-brings d [] u v e h = absurd (omega arith)
+  node-brings d (b ∷ bs) u zero e h = rw (eq-eqb b (suc k) e) (meet-l (over q i u d) (downNode q i k d (suc u) bs) (over-has q i u d h))
+  node-brings d (b ∷ bs) u (suc v) e h = go (eqb b (suc k)) (node-brings d bs (suc u) v e h)
+    where
+      go : (t : Bool) → Has (downNode q i k d (suc u) bs) → Has (cond t (meet (over q i u d) (downNode q i k d (suc u) bs)) (downNode q i k d (suc u) bs))
+      go true x = meet-r (over q i u d) (downNode q i k d (suc u) bs) x
+      go false x = x
+
+  layer-brings : (ds : List Numbers) (l : List (List ℕ)) (j v : ℕ) → getD (getD l j []) v 0 ≡ suc k → Has (getD ds j none) → Has (downAt q i k ds l)
+  layer-brings [] l j v e h = absurd (none-has h)
+  layer-brings (d ∷ ds) [] j v e h = absurd (omega arith)
+  layer-brings (d ∷ ds) (bs ∷ l) zero v e h = meet-l (downNode q i k d 0 bs) (downAt q i k ds l) (node-brings d bs 0 v e h)
+  layer-brings (d ∷ ds) (bs ∷ l) (suc j) v e h = meet-r (downNode q i k d 0 bs) (downAt q i k ds l) (layer-brings ds l j v e h)
+
+downs-next : (q : Campaign) (i : ℕ) (ds : List Numbers) (a : Arcs) (t : ℕ) → t < length a
+    → getD (downs q i ds a) (suc t) [] ≡ nextDowns q (i + t) (getD (downs q i ds a) t []) (getD a t []) (drop (suc t) a)
+downs-next q i ds [] t h = absurd (omega arith)
+downs-next q i ds (l ∷ []) zero h = let o : i + 0 ≡ i = omega arith in rw o refl
+downs-next q i ds (l ∷ m ∷ ls) zero h = let o : i + 0 ≡ i = omega arith in rw o refl
+downs-next q i ds (l ∷ ls) (suc t) h = let o : i + suc t ≡ suc i + t = omega arith in rw o (downs-next q (suc i) (nextDowns q i ds l ls) ls t (omega arith))
+
+-- ---- up: what is left of a path behind an arc that it passes
+record Rest (a : Arcs) (i j v : ℕ) : Type 0 where
+  to : ℕ
+  steps : List ℕ
+  byte : arcAt a i j v ≡ suc to
+  walk : walks (drop (suc i) a) to steps ≡ true
+
+path-rest : (i j v : ℕ) (a : Arcs) (k : ℕ) (p : List ℕ) → walks a k p ≡ true → passes i j v a k p ≡ true → Rest a i j v
+path-rest i j v [] k p w e = absurd (true≢false (sym e))
+path-rest i j v (l ∷ ls) k [] w e = absurd (true≢false (sym e))
+path-rest zero j v (l ∷ ls) k (u ∷ p) w e =
+    let x = next (λ m. walks ls m p) (getD (getD l k []) u 0) w in
+    let at : k ≡ j = eqb-true k j (and-l (eqb k j) (eqb u v) e) in
+    let by : u ≡ v = eqb-true u v (and-r (eqb k j) (eqb u v) e) in
+    record { to = x .to; steps = p; byte = rw (← at, ← by) (x .byte); walk = x .on }
+path-rest (suc i) j v (l ∷ ls) k (u ∷ p) w e =
+    let x = next (λ m. walks ls m p) (getD (getD l k []) u 0) w in
+    let r = path-rest i j v ls (x .to) p (x .on) (sym (ap (along (λ m. passes i j v ls m p)) (x .byte)) ∙ e) in
+    record { to = r .to; steps = r .steps; byte = r .byte; walk = r .walk }
+
+-- ---- so both numbers of a node pass to each child
+record Child (q : Campaign) (a : Arcs) (i k : ℕ) : Type 0 where
+  below : k < nodeCount (drop i a)
+  down : Has (downOf q a i k)
+  up : Has (upAt q a i k)
+
+child : (q : Campaign) (b : Arcs) (i j v k : ℕ) → i < length (swept q b) → Has (downOf q (swept q b) i j) → arcAt (swept q b) i j v ≡ suc k → Child q (swept q b) (suc i) k
+child q b i j v k h d e =
+    let a = swept q b in
+    let x = swept-arc q b i j v (omega arith) in
+    let r = path-rest i j v a 0 (x .steps) (x .is) (x .on) in
+    let same : r .to ≡ k = omega (arith, r .byte) in
+    let walk : walks (drop (suc i) a) k (r .steps) ≡ true = rw same at (r .walk) in
+    let below = walk-there (drop (suc i) a) k (r .steps) walk in
+    let ups : getD (upNumbers q a) (suc i) [] ≡ firstUps q (suc i) (drop (suc i) a) = rw (zero-add (suc i)) at (ups-at q 0 a (suc i) h) in
+    let covers = ups-cover q (suc i) (drop (suc i) a) k (r .steps) walk in
+    let ds = getD (downNumbers q a) i [] in
+    let next : getD (downNumbers q a) (suc i) [] ≡ nextDowns q i ds (getD a i []) (drop (suc i) a) = rw (zero-add i) at (downs-next q 0 (begins q ∷ []) a i h) in
+    record {
+      below = below;
+      down = rw (next, made-at (λ n. downAt q i n ds (getD a i [])) (nodeCount (drop (suc i) a)) k none below) (layer-brings q i k ds (getD a i []) j v e d);
+      up = rw ups (cover-has (getD (firstUps q (suc i) (drop (suc i) a)) k none) _ _ covers);
+    }
+
+-- ---- the first step by cells is the first by costs up
+record Cell (us : List Numbers) (cells : List ℤ) (m k : ℕ) : Type 0 where
+  cost : State × ℤ
+  up : getD us k none ≡ some cost
+  cell : getD cells (k * (4 * m + 3) + 4 * m + 2) (pos 0) ≡ cost .1
+
+same-step : (q : Campaign) (i m : ℕ) (weight : ℤ) → ((v : ℕ) → q .price i v ≡ weight *ℤ pos v) → (us : List Numbers) (cells : List ℤ) (z : ℤ) (u : ℕ) (bs : List ℕ)
+    → ((v k : ℕ) → getD bs v 0 ≡ suc k → Cell us cells m k) → firstCell m weight cells z u bs ≡ firstStep q i us z u bs
+same-step q i m weight p us cells z u [] h = refl
+same-step q i m weight p us cells z u (zero ∷ bs) h = same-step q i m weight p us cells z (suc u) bs (λ v. h (suc v))
+same-step q i m weight p us cells z u (suc k ∷ bs) h =
+    let c = h 0 k refl in
+    rw (c .up, c .cell, p u, same-step q i m weight p us cells z (suc u) bs (λ v. h (suc v)))
+
+-- ---- sizes
+nodes-few : (k w : ℕ) → 1 ≤ w → (a : Arcs) → Sized k w a → (i : ℕ) → nodeCount (drop i a) ≤ w
+nodes-few k w h [] s zero = h
+nodes-few k w h [] s (suc i) = h
+nodes-few k w h (l ∷ ls) s zero = s .0 .0
+nodes-few k w h (l ∷ ls) s (suc i) = nodes-few k w h ls (s .1) i
+
+form-low : (w : ℕ) → 1 ≤ w → (a : Arcs) → Form w a → (i : ℕ) → Each (Each (λ b. b ≤ w)) (getD a i [])
+form-low w h [] f i = tt
+form-low w h (l ∷ []) f zero = each-more (Each (λ b. b ≤ 1)) (Each (λ b. b ≤ w)) (λ bs e. each-more (λ b. b ≤ 1) (λ b. b ≤ w) (λ b o. omega arith) bs e) l f
+form-low w h (l ∷ []) f (suc i) = tt
+form-low w h (l ∷ m ∷ ls) f zero = f .0
+form-low w h (l ∷ m ∷ ls) f (suc i) = form-low w h (m ∷ ls) (f .1) i
+
+pub led-long : (q : Campaign) (i : ℕ) (a : Arcs) (k : ℕ) → length (led q i a k) ≡ length a
+led-long q i [] k = refl
+led-long q i (l ∷ ls) k = ap suc (led-long q (suc i) ls _)
+
+drop-suc : {A : Type 0} (i : ℕ) (l : List A) → drop (suc i) l ≡ tail (drop i l)
+drop-suc zero [] = refl
+drop-suc (suc i) [] = refl
+drop-suc zero (x ∷ l) = refl
+drop-suc (suc i) (x ∷ l) = drop-suc i l
+
+-- ---- along the plan: node j of layer i is present, and the steps from there are the plan's
+pub record On (q : Campaign) (w : ℕ) (a : Arcs) (i j : ℕ) : Type 0 where
+  pub below : j < w
+  pub down : Has (downOf q a i j)
+  pub up : Has (upAt q a i j)
+  pub rest : drop i (led q 0 a 0) ≡ led q i (drop i a) j
+
+-- a turn: the step is the plan's, its arc is there, and leads on
+pub record Turn (q : Campaign) (w : ℕ) (a : Arcs) (arcs : List ℕ) (i at v : ℕ) : Type 0 where
+  pub plan : v ≡ getD (led q 0 a 0) i 0
+  pub small : v < 8
+  pub to : ℕ
+  pub byte : getD arcs (at + v) 0 ≡ suc to
+  pub on : On q w a (i + 1) to
+
+module _ (q : Campaign) (s : Small q) (w : ℕ) (wide : 1 ≤ w) (b : Arcs) (h : Shaped q w (swept q b)) where
+  abbrev a : Arcs
+  a = swept q b
+
+  pub on-start : Has (upAt q a 0 0) → On q w a 0 0
+  on-start u = record { below = wide; down = rw (source-begins q a) (record { value = _; is = refl }); up = u; rest = refl }
+
+  -- the buffers
+  module _ (arcs : List ℕ) (x : List ℤ) (z : ℕ) (arcs-are : arcs ≡ laid (q .steps) w a) (cells-are : x ≡ numberCells q w z a) (room : cellsNeed q w ≤ z) where
+    abbrev k : ℕ
+    k = nodeNeed q
+
+    -- a present node's cost up
+    up-cell : (i j : ℕ) → i ≤ slots q → j < w → Has (downOf q a i j) → (u : Has (upAt q a i j)) → getD x ((i * w + j) * k + 4 * length (q .rules) + 2) (pos 0) ≡ u .value .1
+    up-cell i j e f d u =
+        let m = 4 * length (q .rules) in
+        let place : (i * w + j) * k + m + 2 ≡ (i * w + j) * k + (m + 2) = omega arith in
+        ap (λ (y : List ℤ). getD y ((i * w + j) * k + m + 2) (pos 0)) cells-are
+        ∙ ap (λ (t : ℕ). getD (numberCells q w z a) t (pos 0)) place
+        ∙ cell-at q s w a h z room i j (m + 2) e f (omega arith)
+        ∙ own (downOf q a i j) (upAt q a i j) (d .is) (u .is) (down-fits q s w a h i j) (up-fits q s w a h i j)
+      where
+        own : (d u : Numbers) {c e : State × ℤ} → d ≡ some c → u ≡ some e → Fit q i d → Fit q (length a - i) u → getD (nodeCells k d u) (4 * length (q .rules) + 2) (pos 0) ≡ e .1
+        own d u {c} {e} f g fd fu = rw (f, g) (cost-up q i (length a - i) c e (subst (Fit q i) f fd) (subst (Fit q (length a - i)) g fu))
+
+    -- a node on the way
+    module _ (i j : ℕ) (inside : i < slots q) (on : On q w a i j) where
+      abbrev l : List (List ℕ)
+      l = getD a i []
+
+      abbrev ls : Arcs
+      ls = drop (suc i) a
+
+      there : i < length a
+      there = omega (arith, h .long)
+
+      parts : drop i a ≡ l ∷ ls
+      parts = drop-cons a i [] there
+
+      ups-are : (t : ℕ) → t ≤ length a → getD (upNumbers q a) t [] ≡ firstUps q t (drop t a)
+      ups-are t e = rw (zero-add t) at (ups-at q 0 a t e)
+
+      own-up : getD (firstUps q i (l ∷ ls)) j none ≡ some (on .up .value)
+      own-up = ap (λ (m : Arcs). getD (firstUps q i m) j none) (sym parts) ∙ ap (λ (us : List Numbers). getD us j none) (sym (ups-are i (omega (arith, there)))) ∙ on .up .is
+
+      way : Step q i l ls j (on .up .value)
+      way = node-step q i l ls j own-up
+
+      -- the node's cost up
+      pub cost-is : getD x ((i * w + j) * k + 4 * length (q .rules) + 2) (pos 0) ≡ on .up .value .1
+      cost-is = up-cell i j (omega arith) (on .below) (on .down) (on .up)
+
+      -- the next layer's cells
+      abbrev y : List ℤ
+      y = take (w * k) (drop ((i + 1) * (w * k)) x)
+
+      child-cell : (v c : ℕ) → getD (getD l j []) v 0 ≡ suc c → Cell (firstUps q (suc i) ls) y (length (q .rules)) c
+      child-cell v c e =
+          let m = 4 * length (q .rules) in
+          let n = child q b i j v c there (on .down) e in
+          let few : c < w = omega (arith, n .below, nodes-few (q .steps) w wide a (h .sized) (suc i)) in
+          let row : c * k + m + 2 < w * k = omega (arith, mul-le-mul-right k few, suc-mul c k) in
+          let place : (i + 1) * (w * k) + (c * k + m + 2) ≡ (suc i * w + c) * k + m + 2 = rw (add-one i, add-mul (suc i * w) c k, mul-assoc (suc i) w k) (omega arith) in
+          record {
+            cost = n .up .value;
+            up = ap (λ (us : List Numbers). getD us c none) (sym (ups-are (suc i) there)) ∙ n .up .is;
+            cell = getD-take (w * k) (drop ((i + 1) * (w * k)) x) (c * k + m + 2) (pos 0) row ∙ getD-drop ((i + 1) * (w * k)) x (c * k + m + 2) (pos 0)
+                ∙ ap (λ (t : ℕ). getD x t (pos 0)) place ∙ up-cell (suc i) c inside few (n .down) (n .up);
+          }
+
+      -- the node's bytes
+      bytes-are : take (q .steps) (drop ((i * w + j) * q .steps) arcs) ≡ getD l j []
+      bytes-are = ap (λ (y : List ℕ). take (q .steps) (drop ((i * w + j) * q .steps) y)) arcs-are ∙ bytes-at (q .steps) w a (h .sized) i j there (way .there)
+
+      bytes-long : length (getD l j []) ≡ q .steps
+      bytes-long = each-below (λ (bs : List ℕ). length bs ≡ q .steps) l j [] (each-at (λ (l : List (List ℕ)). (length l ≤ w) × Each (λ bs. length bs ≡ q .steps) l) a i [] (omega arith, tt) (h .sized) .1) (way .there)
+
+      next-long : length y ≡ w * k
+      next-long =
+          let rows : suc (i + 1) * (w * k) ≤ suc (slots q) * (w * k) = mul-le-mul-right (w * k) (omega arith) in
+          let need : cellsNeed q w ≡ suc (slots q) * (w * k) = mul-assoc (suc (slots q)) w k in
+          let long : length x ≡ z = ap length cells-are ∙ length-padded (pos 0) z _ in
+          omega (arith, length-take (w * k) (drop ((i + 1) * (w * k)) x), length-drop ((i + 1) * (w * k)) x, suc-mul (i + 1) (w * k))
+
+      -- what the search for a step asks
+      pub led-right : (weight : ℤ) → Within 10000 weight → (m : ℕ) → length (q .rules) ≡ m → Led m weight (take (q .steps) (drop ((i * w + j) * q .steps) arcs)) y
+      led-right weight r m e = rw (← e, bytes-are) (record {
+        few = s .rules;
+        small = r;
+        eight = bytes-long ∙ s .steps;
+        there = each-more (λ b. b ≤ w) (λ b. b * k ≤ length y) (λ b f. omega (arith, mul-le-mul-right k f, next-long)) (getD l j []) (each-at (Each (λ b. b ≤ w)) l j [] tt (form-low w wide a (h .form) i));
+        inside = each-take (Within 4000000) (w * k) (drop ((i + 1) * (w * k)) x) (each-drop (Within 4000000) ((i + 1) * (w * k)) x (rw cells-are (cells-inside q s w a h z room)));
+      })
+
+      -- the step that is found
+      pub turn : (weight : ℤ) → ((v : ℕ) → q .price i v ≡ weight *ℤ pos v) → (m : ℕ) → length (q .rules) ≡ m → (z : ℤ) → z ≡ on .up .value .1 → (v : ℕ)
+          → v ≡ firstCell m weight y z 0 (take (q .steps) (drop ((i * w + j) * q .steps) arcs)) → Turn q w a arcs i ((i * w + j) * q .steps) v
+      turn weight p m e z c v f =
+          let us = firstUps q (suc i) ls in
+          let bs = getD l j [] in
+          let own : upNode q i us 0 bs ≡ some (on .up .value) = sym (List·getD-map (upNode q i us 0) l j []) ∙ own-up in
+          let led-step : firstStep q i us z 0 bs ≡ way .step = ap (λ (t : ℤ). firstStep q i us t 0 bs) (c ∙ sym (ap costOf own)) ∙ way .is in
+          let step : v ≡ way .step = f ∙ rw (← e, bytes-are) (same-step q i (length (q .rules)) weight p us y z 0 bs child-cell) ∙ led-step in
+          let n = child q b i j (way .step) (way .to) there (on .down) (way .byte) in
+          let rest : drop i (led q 0 a 0) ≡ way .step ∷ led q (suc i) ls (way .to) = on .rest ∙ ap (λ (m : Arcs). led q i m j) parts ∙ way .on in
+          let at = (i * w + j) * q .steps in
+          record {
+            plan = step ∙ sym (ap (λ (t : List ℕ). getD t 0 0) rest) ∙ getD-drop i (led q 0 a 0) 0 0 ∙ ap (λ (n : ℕ). getD (led q 0 a 0) n 0) (add-zero i);
+            small = omega (arith, step, way .within, bytes-long, s .steps);
+            to = way .to;
+            byte = rw step (sym (getD-drop at arcs (way .step) 0) ∙ sym (getD-take (q .steps) (drop at arcs) (way .step) 0 (omega (arith, way .within, bytes-long))) ∙ ap (λ (t : List ℕ). getD t (way .step) 0) bytes-are ∙ way .byte);
+            on = rw (add-one i) (record {
+              below = omega (arith, n .below, nodes-few (q .steps) w wide a (h .sized) (suc i));
+              down = n .down;
+              up = n .up;
+              rest = drop-suc i (led q 0 a 0) ∙ ap tail rest;
+            });
+          }

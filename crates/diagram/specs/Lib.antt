@@ -1,0 +1,2 @@
+-- What the builders' answers say.
+pub mod Answers

@@ -1,0 +1,249 @@
+// The relaxed and the restricted diagram of a problem: refusals, both buffers, the bound, the plan shown.
+ghost use mathlib.Core.Path.{_≡_};
+ghost use mathlib.Core.List.{[], _++_};
+ghost use mathlib.Core.Bool.{false, not};
+ghost use Prim.Native.Nat.{_+_, _*_, _≤_};
+ghost use lib.ListN.{length, getD, drop};
+ghost use lib.IntN.{pos};
+ghost use Rattle.laws.specs.Z.{Within, eqZ};
+ghost use Rattle.meaning.specs.Problem.{version1};
+ghost use Rattle.meaning.specs.Diagram.{relaxed, built};
+ghost use Rattle.meaning.specs.Filter.{relaxedArcs, restrictedArcs};
+ghost use Rattle.meaning.specs.Buffers.{cellsNeed, numberCells};
+ghost use Rattle.meaning.specs.Calls.{wrongWidth, wrongNumbers, relaxedOf, restrictedOf};
+ghost use Rattle.problem.specs.Held.{faultIn, campaignOf};
+ghost use Rattle.lent.specs.Wide.{laid};
+ghost use Rattle.lent.specs.Led.{led};
+ghost use Rattle.numbers.specs.Whole.{Ready};
+ghost use Rattle.diagram.specs.Answers.{boundedAs, lentOf, Led, firstCell, Leads};
+use problem::Problem;
+
+// A refusal's number or 0; is there a bound, the bound; exact or open.
+pub struct Bound {
+    pub number: u32,
+    pub present: bool,
+    pub bound: i32,
+    pub exact: bool,
+}
+
+// A refusal: its number, and no other answer.
+pub fn refusal(number: u32) -> Bound
+    ensures { λ r. ⌜ r ≡ record { number = number; present = false; bound = pos 0; exact = false } ⌝ }
+{
+    Bound {
+        number: number,
+        present: false,
+        bound: 0,
+        exact: false,
+    }
+}
+
+// The width is 1 to 16.
+fn width_is_right(w: u32) -> bool
+    ensures { λ r. ⌜ r ≡ not (wrongWidth w) ⌝ }
+{
+    if w < 1 {
+        return false;
+    }
+    w <= 16
+}
+
+// So is the width, at most 64 rounds, the ceiling within 2,000,000.
+fn numbers_are_right(w: u32, rounds: u32, ceiling: i32) -> bool
+    ensures { λ r. ⌜ r ≡ not (wrongNumbers w rounds ceiling) ⌝ }
+{
+    if !width_is_right(w) {
+        return false;
+    }
+    if 64 < rounds {
+        return false;
+    }
+    if ceiling < -2000000 {
+        return false;
+    }
+    ceiling <= 2000000
+}
+
+// The bytes that the arcs need.
+fn arcs_need(n: usize, w: usize) -> usize
+    requires { ⌜ (n ≤ 24) × (w ≤ 16) ⌝ }
+    ensures { λ r. ⌜ r ≡ 8 * n * w ⌝ }
+{
+    8 * n * w
+}
+
+// The cells that the numbers need.
+fn cells_need(n: usize, m: usize, w: usize) -> usize
+    requires { ⌜ (n ≤ 24) × (m ≤ 8) × (w ≤ 16) ⌝ }
+    ensures { λ r. ⌜ r ≡ (n + 1) * w * (4 * m + 3) ⌝ }
+{
+    (n + 1) * w * (4 * m + 3)
+}
+
+// The asked number of rounds, up to one that drops nothing; then the closing sweep.
+fn filter(p: Problem, w: usize, rounds: u32, ceiling: i32, arcs: &mut [u8], cells: &mut [i32])
+    requires { ⌜ Ready p w × Within 2000000 ceiling × (now arcs ≡ laid 8 w (built relaxed (campaignOf p) w)) × (length (now cells) ≡ cellsNeed (campaignOf p) w) ⌝ }
+    ensures arcs { λ r. ⌜ now (arcs .exit) ≡ laid 8 w (relaxedArcs (campaignOf p) w rounds ceiling) ⌝ }
+    ensures cells { λ r. ⌜ now (cells .exit) ≡ numberCells (campaignOf p) w (cellsNeed (campaignOf p) w) (relaxedArcs (campaignOf p) w rounds ceiling) ⌝ }
+{
+    let mut k: u32 = 0;
+    while k < rounds {
+        if !numbers::round(p, w, ceiling, arcs, cells) {
+            return;
+        }
+        k += 1;
+    }
+    numbers::sweep(p, w, arcs, cells);
+}
+
+// The bound that stands in the cells: the sink's cost down, none if the source is absent.
+fn bound_of(n: usize, m: usize, w: usize, cells: &[i32], exact: bool) -> Bound
+    requires { ⌜ (n ≤ 24) × (m ≤ 8) × (1 ≤ w) × (w ≤ 16) × ((n + 1) * w * (4 * m + 3) ≤ length (now cells)) ⌝ }
+    ensures { λ r. ⌜ r ≡ record { number = 0; present = not (eqZ (getD (now (cells .entry)) 0 (pos 0)) (pos 0)); bound = getD (now (cells .entry)) (n * w * (4 * m + 3) + 4 * m + 1) (pos 0); exact = exact } ⌝ }
+{
+    let at = n * w * (4 * m + 3) + 4 * m + 1;
+    let first = cells[0];
+    let bound = cells[at];
+    Bound {
+        number: 0,
+        present: first != 0,
+        bound: bound,
+        exact: exact,
+    }
+}
+
+// The relaxed diagram of a problem without fault: refusals 8, 11, 9.
+pub fn relaxed(
+    p: Problem,
+    width: u32,
+    rounds: u32,
+    ceiling: i32,
+    arcs: &mut [u8],
+    cells: &mut [i32],
+) -> Bound
+    requires { ⌜ faultIn version1 p ≡ 0 ⌝ }
+    ensures { λ r. ⌜ r ≡ boundedAs (relaxedOf (campaignOf p) width rounds ceiling (lentOf (now (arcs .entry)) (now (cells .entry)) []) .answer) ⌝ }
+    ensures arcs { λ r. ⌜ now (arcs .exit) ≡ relaxedOf (campaignOf p) width rounds ceiling (lentOf (now (arcs .entry)) (now (cells .entry)) []) .lent .arcs ⌝ }
+    ensures cells { λ r. ⌜ now (cells .exit) ≡ relaxedOf (campaignOf p) width rounds ceiling (lentOf (now (arcs .entry)) (now (cells .entry)) []) .lent .cells ⌝ }
+{
+    if !numbers_are_right(width, rounds, ceiling) {
+        return refusal(8);
+    }
+    let w = width as usize;
+    let n = p.n;
+    let m = p.m;
+    let bytes = arcs_need(n, w);
+    let numbers = cells_need(n, m, w);
+    if arcs.len() < bytes {
+        return refusal(11);
+    }
+    if cells.len() < numbers {
+        return refusal(11);
+    }
+    let nine = guard::guard_of(p);
+    if nine != 0 {
+        return refusal(nine);
+    }
+    let exact = building::build(p, true, w, arcs);
+    rows::zero_cells(&mut cells[numbers..]);
+    filter(
+        p,
+        w,
+        rounds,
+        ceiling,
+        &mut arcs[..bytes],
+        &mut cells[..numbers],
+    );
+    bound_of(n, m, w, cells, exact)
+}
+
+// The first step of a node along which its cost up is reached: its arcs, and the cells of the next layer.
+fn first_step(weight: i32, m: usize, arcs: &[u8], cells: &[i32], cost: i32) -> usize
+    requires { ⌜ Led m weight (now arcs) (now cells) ⌝ }
+    ensures { λ r. ⌜ (r ≡ firstCell m weight (now (cells .entry)) cost 0 (now (arcs .entry))) × (r ≤ 8) ⌝ }
+{
+    let mut v: usize = 0;
+    while v < 8 {
+        let b = arcs[v] as usize;
+        if b != 0 {
+            let c = cells[(b - 1) * (4 * m + 3) + 4 * m + 2];
+            if c + problem::price(weight, v) == cost {
+                return v;
+            }
+        }
+        v += 1;
+    }
+    8
+}
+
+// The cheapest path, of equal ones the first in dictionary order, along the costs up.
+fn lead(p: Problem, w: usize, arcs: &[u8], cells: &[i32], plan: &mut [u8])
+    requires { ⌜ Leads p w (now arcs) (now cells) × (p .n ≤ length (now plan)) ⌝ }
+    ensures { λ r. ⌜ now (plan .exit) ≡ led (campaignOf p) 0 (restrictedArcs (campaignOf p) w) 0 ++ drop (p .n) (now (plan .entry)) ⌝ }
+{
+    let n = p.n;
+    let m = p.m;
+    let size = w * (4 * m + 3);
+    let mut j: usize = 0;
+    let mut i: usize = 0;
+    while i < n {
+        let at = (i * w + j) * 8;
+        let cost = cells[(i * w + j) * (4 * m + 3) + 4 * m + 2];
+        let weight = p.weights[i];
+        let v = first_step(
+            weight,
+            m,
+            &arcs[at..at + 8],
+            &cells[(i + 1) * size..(i + 1) * size + size],
+            cost,
+        );
+        plan[i] = v as u8;
+        j = arcs[at + v] as usize - 1;
+        i += 1;
+    }
+}
+
+// The restricted diagram of a problem without fault: refusals 8, 11, 9.
+pub fn restricted(
+    p: Problem,
+    width: u32,
+    arcs: &mut [u8],
+    cells: &mut [i32],
+    plan: &mut [u8],
+) -> Bound
+    requires { ⌜ faultIn version1 p ≡ 0 ⌝ }
+    ensures { λ r. ⌜ r ≡ boundedAs (restrictedOf (campaignOf p) width (lentOf (now (arcs .entry)) (now (cells .entry)) (now (plan .entry))) .answer) ⌝ }
+    ensures arcs { λ r. ⌜ now (arcs .exit) ≡ restrictedOf (campaignOf p) width (lentOf (now (arcs .entry)) (now (cells .entry)) (now (plan .entry))) .lent .arcs ⌝ }
+    ensures cells { λ r. ⌜ now (cells .exit) ≡ restrictedOf (campaignOf p) width (lentOf (now (arcs .entry)) (now (cells .entry)) (now (plan .entry))) .lent .cells ⌝ }
+    ensures plan { λ r. ⌜ now (plan .exit) ≡ restrictedOf (campaignOf p) width (lentOf (now (arcs .entry)) (now (cells .entry)) (now (plan .entry))) .lent .plan ⌝ }
+{
+    if !width_is_right(width) {
+        return refusal(8);
+    }
+    let w = width as usize;
+    let n = p.n;
+    let m = p.m;
+    let bytes = arcs_need(n, w);
+    let numbers = cells_need(n, m, w);
+    if arcs.len() < bytes {
+        return refusal(11);
+    }
+    if cells.len() < numbers {
+        return refusal(11);
+    }
+    if plan.len() < n {
+        return refusal(11);
+    }
+    let nine = guard::guard_of(p);
+    if nine != 0 {
+        return refusal(nine);
+    }
+    let exact = building::build(p, false, w, arcs);
+    rows::zero_cells(&mut cells[numbers..]);
+    numbers::sweep(p, w, &mut arcs[..bytes], &mut cells[..numbers]);
+    building::zero_bytes(plan);
+    if cells[0] != 0 {
+        lead(p, w, &arcs[..bytes], &cells[..numbers], plan);
+    }
+    bound_of(n, m, w, cells, exact)
+}

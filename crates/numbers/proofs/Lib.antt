@@ -1,0 +1,7 @@
+-- Laws that only proofs cite.
+-- a buffer that fills block by block
+pub mod Blocks
+-- the passes, layer by layer
+pub mod Passes
+-- the limit
+pub mod Limit

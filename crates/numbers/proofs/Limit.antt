@@ -1,0 +1,85 @@
+-- What does the limit hold while a loop writes the bounds of the rules to it?
+use mathlib.Core.Path.{_≡_, refl, sym, ap, _∙_}
+use mathlib.Core.List.{List, [], _∷_, _++_, map}
+use mathlib.Core.Bool.{Bool, true, false}
+use Prim.Native.Nat.{ℕ, suc, _+_, _≤_, _<_}
+use native.Mathlib.Nat.{zero-add}
+use native.Mathlib.Omega.{arith}
+use lib.ListN.{length, getD, set, replicate, length-append}
+use lib.Seq.{set-append-left, set-at}
+use lib.IntN.{ℤ, pos, negℤ}
+use Rattle.laws.specs.Z.{Within}
+use Rattle.laws.specs.Lists.{from, padded}
+use Rattle.laws.proofs.Filled.{length-padded}
+use Rattle.meaning.specs.Plan.{Rule}
+use Rattle.meaning.specs.Problem.{version1, ruleOf}
+use Rattle.problem.specs.declared.Problem.{Problem}
+use Rattle.problem.specs.Held.{saidAt, campaignOf}
+use Rattle.problem.proofs.Faultless.{right}
+use Rattle.lent.specs.Vec.{limitVec}
+use Rattle.slot.proofs.Laws.{entry-laid}
+use Rattle.slot.proofs.Said.{map-map}
+use Rattle.numbers.specs.Whole.{Ready, testOf}
+
+-- the bounds of the first r rules, the lower ones with their sign turned, all else out of reach
+module _ (p : Problem) where
+  abbrev high : ℕ → ℤ
+  high k = getD (p .ub) k (pos 0)
+
+  abbrev low : ℕ → ℤ
+  low k = negℤ (getD (p .lb) k (pos 0))
+
+  abbrev lanes : (ℕ → ℤ) → ℕ → List ℤ
+  lanes f r = padded 8 (pos 2000000) (map f (from 0 r))
+
+  pub record Bounds (x : List ℤ) (r : ℕ) : Type 0 where
+    pub few : p .m ≤ 8
+    pub done : r ≤ p .m
+    pub is : x ≡ lanes high r ++ lanes low r ++ (pos 2000000 ∷ [])
+
+  pub bounds-start : {w : ℕ} → Ready p w → Bounds (replicate 17 (pos 2000000)) 0
+  bounds-start h = record { few = right version1 p (h .right) .head .rules; done = omega arith; is = refl }
+
+  eight : (f : ℕ → ℤ) (r : ℕ) → length (lanes f r) ≡ 8
+  eight f r = length-padded (pos 2000000) 8 (map f (from 0 r))
+
+  sixteen : (r k : ℕ) → length (lanes high r ++ lanes low k) ≡ 16
+  sixteen r k = length-append (lanes high r) (lanes low k) ∙ omega (arith, eight high r, eight low k)
+
+  set-behind : (xs ys : List ℤ) (i : ℕ) (a : ℤ) → set (xs ++ ys) (length xs + i) a ≡ xs ++ set ys i a
+  set-behind [] ys i a = rw (zero-add i) refl
+  set-behind (x ∷ xs) ys i a = let o : suc (length xs) + i ≡ suc (length xs + i) = omega arith in rw o (ap (λ (l : List ℤ). x ∷ l) (set-behind xs ys i a))
+
+  pub bounds-more : {x : List ℤ} {r : ℕ} {a b : ℤ} → Bounds x r → r < p .m → a ≡ getD (p .ub) r (pos 0) → b ≡ negℤ (getD (p .lb) r (pos 0)) → Bounds (set (set x r a) (8 + r) b) (r + 1)
+  bounds-more {x} {r} {a} {b} s h ea eb =
+      let few = s .few in
+      let end : List ℤ = pos 2000000 ∷ [] in
+      let one : set x r a ≡ lanes high (r + 1) ++ lanes low r ++ end =
+      (λ j. set (s .is j) r (ea j)) ∙ set-append-left (lanes high r ++ lanes low r) end r (high r) (omega (arith, sixteen r r))
+      ∙ ap (λ (l : List ℤ). l ++ end) (set-append-left (lanes high r) (lanes low r) r (high r) (omega (arith, eight high r)) ∙ ap (λ (l : List ℤ). l ++ lanes low r) (entry-laid (pos 2000000) 8 high r (omega arith))) in
+      let two : set (lanes high (r + 1) ++ lanes low r) (8 + r) (low r) ≡ lanes high (r + 1) ++ lanes low (r + 1) =
+      ap (λ (k : ℕ). set (lanes high (r + 1) ++ lanes low r) (k + r) (low r)) (sym (eight high (r + 1))) ∙ set-behind (lanes high (r + 1)) (lanes low r) r (low r)
+      ∙ ap (λ (l : List ℤ). lanes high (r + 1) ++ l) (entry-laid (pos 2000000) 8 low r (omega arith)) in
+      record {
+        few = few;
+        done = omega arith;
+        is = (λ j. set (one j) (8 + r) (eb j)) ∙ set-append-left (lanes high (r + 1) ++ lanes low r) end (8 + r) (low r) (omega (arith, sixteen (r + 1) r)) ∙ ap (λ (l : List ℤ). l ++ end) two;
+      }
+
+  -- of the campaign's rules
+  rules-map : (g : Rule → ℤ) → map g (campaignOf p .rules) ≡ map (λ k. g (ruleOf (saidAt p k))) (from 0 (p .m))
+  rules-map g = ap (map g) (map-map ruleOf (saidAt p) (from 0 (p .m))) ∙ map-map g (λ (k : ℕ). ruleOf (saidAt p k)) (from 0 (p .m))
+
+  pub bounds-end : {x : List ℤ} {r : ℕ} {c z : ℤ} {free : Bool} → Bounds x r → p .m ≤ r → z ≡ c → free ≡ false → set x 16 z ≡ limitVec (testOf free c) (campaignOf p)
+  bounds-end {x} {r} {c} {z} {free} s h e f =
+      let o : r ≡ p .m = omega (arith, s .done) in
+      let ubs = rules-map (λ r. r .ub) in
+      let lbs = ap (map negℤ) (rules-map (λ r. r .lb)) ∙ map-map negℤ (λ (k : ℕ). getD (p .lb) k (pos 0)) (from 0 (p .m)) in
+      (λ j. set (s .is j) 16 (e j)) ∙ set-at (lanes high r ++ lanes low r) (pos 2000000) [] c 16 (sixteen r r) ∙ ap (λ (k : ℕ). lanes high k ++ lanes low k ++ (c ∷ [])) o
+      ∙ sym (ap (λ (t : Bool). limitVec (testOf t c) (campaignOf p)) f ∙ λ j. padded 8 (pos 2000000) (ubs j) ++ padded 8 (pos 2000000) (lbs j) ++ (c ∷ []))
+
+  pub no-bounds : (c : ℤ) {free : Bool} → free ≡ true → replicate 17 (pos 2000000) ≡ limitVec (testOf free c) (campaignOf p)
+  no-bounds c {free} f = ap (λ (t : Bool). limitVec (testOf t c) (campaignOf p)) (sym f)
+
+  pub low-within : {w : ℕ} → Ready p w → (r : ℕ) → r < p .m → Within 200000 (getD (p .lb) r (pos 0))
+  low-within h r l = right version1 p (h .right) .rule r l .fields .low

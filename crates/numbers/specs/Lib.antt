@@ -1,0 +1,2 @@
+-- What the passes over a whole diagram mean.
+pub mod Whole
