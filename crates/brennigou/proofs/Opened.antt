@@ -3,12 +3,12 @@ use mathlib.Core.Path.{_≡_, refl, sym, ap, _∙_}
 use mathlib.Core.List.{List}
 use mathlib.Core.Bool.{false}
 use Prim.Native.Nat.{ℕ}
-use lib.IntN.{pos}
+use lib.IntN.{ℤ, pos}
 use native.Mathlib.Omega.{arith}
 use Rattle.meaning.specs.Problem.{version1}
 use Rattle.meaning.specs.Problem as paper
 use Rattle.meaning.specs.File.{Got, refused, got, readOf}
-use Rattle.meaning.specs.Calls.{emptyStart, read, judged, judge, betterOf, better}
+use Rattle.meaning.specs.Calls.{Lent, emptyStart, read, judged, judge, betterOf, better, noBound, relaxedOf, relaxedCall, restrictedOf, restrictedCall}
 use Rattle.meaning.proofs.Rows.{refused-range}
 use Rattle.problem.specs.Held.{said, held, campaignOf, faultIn}
 use Rattle.problem.proofs.Again.{accepted-held}
@@ -50,6 +50,12 @@ module _ (s : List ℕ) {k : ℕ} (e : readOf s ≡ refused k) where
   pub better-refused : (a b : List ℕ) → better s a b ≡ emptyStart
   better-refused a b = rw e refl
 
+  pub relaxed-refused : (w n : ℕ) (c : ℤ) (l : Lent) → relaxedCall s w n c l ≡ noBound l k
+  relaxed-refused w n c l = rw e refl
+
+  pub restricted-refused : (w : ℕ) (l : Lent) → restrictedCall s w l ≡ noBound l k
+  restricted-refused w l = rw e refl
+
 -- ---- an accepted one: the answer is that of the problem by value
 module _ (s : List ℕ) (r : Reading) (o : Opened s r) where
   pub judge-opened : (p : List ℕ) → judge s p ≡ judged (campaignOf (r .problem)) p
@@ -61,3 +67,13 @@ module _ (s : List ℕ) (r : Reading) (o : Opened s r) where
   better-opened a b =
       let read : better s a b ≡ betterOf (paper.campaign (o .problem)) a b = rw (o .is) refl in
       read ∙ ap (λ (q : paper.Problem). betterOf (paper.campaign q) a b) (sym (o .says))
+
+  pub relaxed-opened : (w n : ℕ) (c : ℤ) (l : Lent) → relaxedCall s w n c l ≡ relaxedOf (campaignOf (r .problem)) w n c l
+  relaxed-opened w n c l =
+      let read : relaxedCall s w n c l ≡ relaxedOf (paper.campaign (o .problem)) w n c l = rw (o .is) refl in
+      read ∙ ap (λ (q : paper.Problem). relaxedOf (paper.campaign q) w n c l) (sym (o .says))
+
+  pub restricted-opened : (w : ℕ) (l : Lent) → restrictedCall s w l ≡ restrictedOf (campaignOf (r .problem)) w l
+  restricted-opened w l =
+      let read : restrictedCall s w l ≡ restrictedOf (paper.campaign (o .problem)) w l = rw (o .is) refl in
+      read ∙ ap (λ (q : paper.Problem). restrictedOf (paper.campaign q) w l) (sym (o .says))

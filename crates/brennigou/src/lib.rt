@@ -1,8 +1,11 @@
 // The public library: the operations from a plan file, for any bytes. Reading alone is `rtp::read`.
 ghost use mathlib.Core.Path.{_≡_};
-ghost use Rattle.meaning.specs.Calls.{judge, better};
+ghost use mathlib.Core.List.{[]};
+ghost use Rattle.meaning.specs.Calls.{judge, better, relaxedCall, restrictedCall};
 ghost use Rattle.judge.specs.Answers.{judgedAs};
+ghost use Rattle.diagram.specs.Answers.{boundedAs, lentOf};
 ghost use Rattle.brennigou.specs.Handed.{Handed};
+use diagram::Bound;
 use judge::Judged;
 use judge::Which;
 
@@ -37,4 +40,46 @@ pub fn better<'a>(file: &[u8], standing: &'a [u8], new: &'a [u8]) -> &'a [u8]
         Which::Standing => standing,
         Which::New => new,
     }
+}
+
+// The relaxed diagram: arcs and cells hold it, and the answer is the dual bound.
+pub fn relaxed(
+    file: &[u8],
+    width: u32,
+    rounds: u32,
+    ceiling: i32,
+    arcs: &mut [u8],
+    cells: &mut [i32],
+) -> Bound
+    ensures { λ r. ⌜ r ≡ boundedAs (relaxedCall (now (file .entry)) width rounds ceiling (lentOf (now (arcs .entry)) (now (cells .entry)) []) .answer) ⌝ }
+    ensures arcs { λ r. ⌜ now (arcs .exit) ≡ relaxedCall (now (file .entry)) width rounds ceiling (lentOf (now (arcs .entry)) (now (cells .entry)) []) .lent .arcs ⌝ }
+    ensures cells { λ r. ⌜ now (cells .exit) ≡ relaxedCall (now (file .entry)) width rounds ceiling (lentOf (now (arcs .entry)) (now (cells .entry)) []) .lent .cells ⌝ }
+{
+    let r = rtp::read(file);
+    if r.number != 0 {
+        return diagram::refusal(r.number);
+    }
+    let p = r.problem;
+    diagram::relaxed(p, width, rounds, ceiling, arcs, cells)
+}
+
+// The restricted diagram: arcs and cells hold it, the answer is the primal bound, and plan the plan that costs it.
+pub fn restricted(
+    file: &[u8],
+    width: u32,
+    arcs: &mut [u8],
+    cells: &mut [i32],
+    plan: &mut [u8],
+) -> Bound
+    ensures { λ r. ⌜ r ≡ boundedAs (restrictedCall (now (file .entry)) width (lentOf (now (arcs .entry)) (now (cells .entry)) (now (plan .entry))) .answer) ⌝ }
+    ensures arcs { λ r. ⌜ now (arcs .exit) ≡ restrictedCall (now (file .entry)) width (lentOf (now (arcs .entry)) (now (cells .entry)) (now (plan .entry))) .lent .arcs ⌝ }
+    ensures cells { λ r. ⌜ now (cells .exit) ≡ restrictedCall (now (file .entry)) width (lentOf (now (arcs .entry)) (now (cells .entry)) (now (plan .entry))) .lent .cells ⌝ }
+    ensures plan { λ r. ⌜ now (plan .exit) ≡ restrictedCall (now (file .entry)) width (lentOf (now (arcs .entry)) (now (cells .entry)) (now (plan .entry))) .lent .plan ⌝ }
+{
+    let r = rtp::read(file);
+    if r.number != 0 {
+        return diagram::refusal(r.number);
+    }
+    let p = r.problem;
+    diagram::restricted(p, width, arcs, cells, plan)
 }
