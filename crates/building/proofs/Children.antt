@@ -11,12 +11,11 @@ use lib.IntN.{ℤ, pos}
 use Rattle.laws.specs.Z.{Within}
 use Rattle.laws.specs.Lists.{gather, flat, from, padded}
 use Rattle.laws.proofs.Each.{Each, each-more, each-map, each-flat, each-from, each-gather}
-use Rattle.laws.proofs.Filled.{length-padded, row-padded}
+use Rattle.laws.proofs.Filled.{length-padded, row-padded, each-padded}
 use Rattle.meaning.specs.Plan.{Rule, Campaign, allows}
 use Rattle.meaning.specs.Diagram.{State, mergedState, child, reach, reaches, mayKeepAll, Node, firstAppearance, arrival, arrivals}
 use Rattle.lent.specs.Vec.{slotVec}
 use Rattle.lent.specs.Small.{Small}
-use Rattle.lent.proofs.Lanes.{each-padded}
 use Rattle.lent.proofs.Fit.{child-long}
 use Rattle.state.specs.Pairs.{Inside, mayFit, paired, unpaired}
 use Rattle.state.proofs.Joined.{noPair}

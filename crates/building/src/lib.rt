@@ -47,6 +47,7 @@ pub fn zero_bytes(bytes: &mut [u8])
     }
 }
 
+// The lesser of two.
 fn least(a: usize, b: usize) -> usize
     ensures { λ r. ⌜ r ≡ min a b ⌝ }
 {

@@ -10,7 +10,7 @@ use lib.Seq.{getD-at, getD-append-add}
 use lib.IntN.{ℤ, pos}
 use Rattle.laws.specs.Z.{Within}
 use Rattle.laws.specs.Lists.{padded}
-use Rattle.laws.proofs.Filled.{getD-padded}
+use Rattle.laws.proofs.Filled.{getD-padded, each-padded}
 use Rattle.laws.proofs.Each.{Each, each-at, each-more}
 use Rattle.meaning.specs.Plan.{Campaign, slots}
 use Rattle.meaning.specs.Diagram.{State, Arcs}
@@ -20,7 +20,7 @@ use Rattle.lent.specs.Small.{Small, Fit, FewBytes}
 use Rattle.lent.proofs.Places.{nextDowns}
 use Rattle.lent.proofs.Fit.{downs-fit, ups-fit}
 use Rattle.lent.proofs.Cells.{cells-within}
-use Rattle.diagram.proofs.Table.{table, cells-table, Celled, table-even, table-rows, table-at, table-long, table-each, element-at, padded-each}
+use Rattle.diagram.proofs.Table.{table, cells-table, Celled, table-even, table-rows, table-at, table-long, table-each, element-at}
 use Rattle.diagram.proofs.Shape.{Shaped}
 
 -- ---- a node's cells
@@ -145,6 +145,6 @@ module _ (q : Campaign) (s : Small q) (w : ℕ) (a : Arcs) (h : Shaped q w a) wh
     pub cells-inside : Each (Within 4000000) (numberCells q w z a)
     cells-inside =
         let k = nodeNeed q in
-        padded-each (Within 4000000) (pos 0) (record { size = omega arith }) z cells
+        each-padded (Within 4000000) z (pos 0) cells (record { size = omega arith })
         (table-each k w (Within 4000000) (record { size = omega arith }) (downNumbers q a) (upNumbers q a)
         (λ i j b. cells-within q s i (length a - i) (omega (arith, rows, s .slots)) (omega (arith, h .long, s .slots)) k (downAt q a i j) (upAt q a i j) (down-fits i j) (up-fits i j)))

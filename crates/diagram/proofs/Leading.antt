@@ -23,7 +23,7 @@ use Rattle.problem.proofs.Faultless.{right}
 use Rattle.slot.proofs.Said.{said-weight, rules-long}
 use Rattle.lent.specs.Small.{Small}
 use Rattle.lent.specs.Led.{led}
-use Rattle.diagram.specs.Answers.{firstCell, Led, Leads}
+use Rattle.diagram.specs.Leading.{firstCell, Led, Leads}
 use Rattle.diagram.proofs.Shape.{Shaped, built-shaped, drops-shaped}
 use Rattle.diagram.proofs.Rounds.{held-long}
 use Rattle.diagram.proofs.Bounds.{source-none}

@@ -1,6 +1,6 @@
 -- What do a round and the closing sweep leave in the buffers, and what stands there when a round drops nothing?
 use mathlib.Core.Path.{_≡_, refl, sym, _∙_, ap}
-use mathlib.Core.List.{List, [], _∷_, append-nil}
+use mathlib.Core.List.{List, [], append-nil}
 use mathlib.Core.Bool.{false, not}
 use Prim.Native.Nat.{ℕ, zero, suc, _+_, _*_, _-_, _≤_, _<_}
 use native.Mathlib.Omega.{arith}
@@ -11,6 +11,7 @@ use lib.ListN.{length}
 use lib.IntN.{ℤ, pos}
 use Rattle.laws.specs.Lists.{same, padded}
 use Rattle.laws.proofs.Parts.{same-true}
+use Rattle.laws.proofs.Filled.{padded-full}
 use Rattle.meaning.specs.Plan.{Campaign, slots}
 use Rattle.meaning.specs.Diagram.{relaxed, Arcs, built}
 use Rattle.meaning.specs.Filter.{downNumbers, upNumbers, Test, onPath, within, drops, rounds, swept, relaxedArcs}
@@ -21,13 +22,6 @@ use Rattle.lent.proofs.Wide.{laid-long, wide-front, wide-drops, wide-cells}
 use Rattle.lent.proofs.Swept.{swept-cells, same-sweep, laid-same}
 use Rattle.numbers.specs.Whole.{Formed}
 use Rattle.diagram.proofs.Shape.{Shaped, form-true, built-shaped, drops-shaped, rounds-shaped}
-
--- a list of that length, filled up
-padded-own : {A : Type 0} (z : A) (n : ℕ) (l : List A) → length l ≡ n → padded n z l ≡ l
-padded-own z zero [] e = refl
-padded-own z zero (x ∷ l) e = absurd (omega arith)
-padded-own z (suc n) [] e = absurd (omega arith)
-padded-own {A} z (suc n) (x ∷ l) e = ap (λ (r : List A). x ∷ r) (padded-own z n l (omega arith))
 
 -- ---- bytes that hold the arcs of a diagram
 module _ (q : Campaign) (w : ℕ) (a : Arcs) (h : Shaped q w a) (b : List ℕ) (is : b ≡ laid (q .steps) w a) where
@@ -51,7 +45,7 @@ module _ (q : Campaign) (w : ℕ) (a : Arcs) (h : Shaped q w a) (b : List ℕ) (
   module _ (x : List ℤ) (f : x ≡ allCells (nodeNeed q) w (downNumbers q (arcsIn q w b)) (upNumbers q (arcsIn q w b))) (z : ℕ) (long : length x ≡ z) where
     held-cells : x ≡ numberCells q w z a
     held-cells =
-        sym (padded-own (pos 0) z x long) ∙ ap (padded z (pos 0)) f
+        sym (padded-full z (pos 0) x long) ∙ ap (padded z (pos 0)) f
         ∙ ap (numberCells q w z) held-arcs ∙ wide-cells q (q .steps) w z a (h .sized)
 
     -- which the sweep does not change

@@ -32,7 +32,8 @@ use Rattle.lent.specs.Small.{Small}
 use Rattle.lent.proofs.Led.{shown-led, shown-none}
 use Rattle.numbers.specs.Whole.{Ready, Formed}
 use Rattle.diagram.specs.declared.Bound.{Bound}
-use Rattle.diagram.specs.Answers.{boundedAs, Leads}
+use Rattle.diagram.specs.Answers.{boundedAs}
+use Rattle.diagram.specs.Leading.{Leads}
 use Rattle.diagram.proofs.Shape.{Shaped, built-shaped, drops-shaped}
 use Rattle.diagram.proofs.Rounds.{held-long, held-formed, held-drops, held-swept}
 use Rattle.diagram.proofs.Cells.{cells-behind}

@@ -13,7 +13,7 @@ use mir.Syntax.{w32}
 use mir.Val.{SFits, ofZ}
 use Rattle.laws.specs.Z.{Within, back, back-is, sum32, eqZ-yes, eqZ-no, bits-eq}
 use Rattle.laws.proofs.Each.{each-at}
-use Rattle.diagram.specs.Answers.{reachedCell, firstCell, Led}
+use Rattle.diagram.specs.Leading.{reachedCell, firstCell, Led}
 
 -- the place of a child's cost up
 abbrev pub costAt : ℕ → ℕ → ℕ

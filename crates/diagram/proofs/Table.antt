@@ -10,7 +10,7 @@ use lib.Seq.{drop-append-add, take-at, drop-drop, getD-take, getD-drop}
 use lib.IntN.{ℤ, pos}
 use Rattle.laws.specs.Lists.{flat, padded}
 use Rattle.laws.proofs.Lists.{getD-map}
-use Rattle.laws.proofs.Filled.{length-padded, take-within}
+use Rattle.laws.proofs.Filled.{length-padded, take-within, each-padded}
 use Rattle.laws.proofs.Each.{Each, each-at, each-map, each-append, each-flat}
 use Rattle.meaning.specs.Diagram.{Arcs}
 use Rattle.meaning.specs.Filter.{Numbers}
@@ -80,11 +80,6 @@ padded-at (suc n) z [] (suc j) h = padded-at n z [] j (omega arith)
 padded-at (suc n) z (x ∷ l) zero h = refl
 padded-at (suc n) z (x ∷ l) (suc j) h = padded-at n z l j (omega arith)
 
-pub padded-each : {A : Type 0} (P : A → Type 0) (z : A) → P z → (n : ℕ) (l : List A) → Each P l → Each P (padded n z l)
-padded-each P z p zero l h = tt
-padded-each P z p (suc n) [] h = (p, padded-each P z p n [] tt)
-padded-each P z p (suc n) (x ∷ l) h = (h .0, padded-each P z p n l (h .1))
-
 -- ---- the bytes
 module _ (k w : ℕ) (a : Arcs) (h : Sized k w a) where
   laid-table : laid k w a ≡ flat (map flat (wide k w a))
@@ -97,7 +92,7 @@ module _ (k w : ℕ) (a : Arcs) (h : Sized k w a) where
   wide-even : Even k w (wide k w a)
   wide-even =
       each-map (λ (l : List (List ℕ)). (length l ≤ w) × Each (λ bs. length bs ≡ k) l) (λ l. (length l ≡ w) × Each (λ bs. length bs ≡ k) l) (padded w (replicate k 0))
-      (λ l e. (length-padded (replicate k 0) w l, padded-each (λ bs. length bs ≡ k) (replicate k 0) (length-replicate k 0) w l (e .1))) a h
+      (λ l e. (length-padded (replicate k 0) w l, each-padded (λ bs. length bs ≡ k) w (replicate k 0) l (length-replicate k 0) (e .1))) a h
 
   -- the bytes of a node that is there
   pub bytes-at : (i j : ℕ) → i < length a → j < length (getD a i []) → take k (drop ((i * w + j) * k) (laid k w a)) ≡ getD (getD a i []) j []
@@ -141,7 +136,7 @@ module _ (k w : ℕ) where
   table-even (d ∷ ds) [] h = tt
   table-even (d ∷ ds) (u ∷ us) h =
       let z = replicate k (pos 0) in
-      ((length-padded z w (layerCells k d u), padded-each (λ c. length c ≡ k) z (length-replicate k (pos 0)) w (layerCells k d u) (layer-long d u (h 0))), table-even ds us (λ i. h (suc i)))
+      ((length-padded z w (layerCells k d u), each-padded (λ c. length c ≡ k) w z (layerCells k d u) (length-replicate k (pos 0)) (layer-long d u (h 0))), table-even ds us (λ i. h (suc i)))
 
   pub table-rows : (ds us : List (List Numbers)) → length us ≡ length ds → length (table ds us) ≡ length ds
   table-rows [] us e = refl
@@ -178,5 +173,5 @@ module _ (k w : ℕ) where
     table-each (d ∷ ds) (u ∷ us) h =
         let l = padded w (replicate k (pos 0)) (layerCells k d u) in
         each-append P (flat l) (allCells k w ds us)
-        (each-flat P l (padded-each (Each P) (replicate k (pos 0)) (zero-each k) w (layerCells k d u) (layer-each d u (λ j. h 0 j (omega arith)))))
+        (each-flat P l (each-padded (Each P) w (replicate k (pos 0)) (layerCells k d u) (zero-each k) (layer-each d u (λ j. h 0 j (omega arith)))))
         (table-each ds us (λ i j b. h (suc i) j (omega arith)))

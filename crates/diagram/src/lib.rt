@@ -15,7 +15,8 @@ ghost use Rattle.problem.specs.Held.{faultIn, campaignOf};
 ghost use Rattle.lent.specs.Wide.{laid};
 ghost use Rattle.lent.specs.Led.{led};
 ghost use Rattle.numbers.specs.Whole.{Ready};
-ghost use Rattle.diagram.specs.Answers.{boundedAs, lentOf, Led, firstCell, Leads};
+ghost use Rattle.diagram.specs.Answers.{boundedAs, lentOf};
+ghost use Rattle.diagram.specs.Leading.{Led, firstCell, Leads};
 use problem::Problem;
 
 // A refusal's number or 0; is there a bound, the bound; exact or open.
@@ -48,7 +49,7 @@ fn width_is_right(w: u32) -> bool
     w <= 16
 }
 
-// So is the width, at most 64 rounds, the ceiling within 2,000,000.
+// The width is 1 to 16, there are at most 64 rounds, and the ceiling is within 2,000,000.
 fn numbers_are_right(w: u32, rounds: u32, ceiling: i32) -> bool
     ensures { λ r. ⌜ r ≡ not (wrongNumbers w rounds ceiling) ⌝ }
 {
@@ -80,7 +81,7 @@ fn cells_need(n: usize, m: usize, w: usize) -> usize
     (n + 1) * w * (4 * m + 3)
 }
 
-// The asked number of rounds, up to one that drops nothing; then the closing sweep.
+// The asked number of rounds and the closing sweep. Behind a round that drops nothing neither would change anything.
 fn filter(p: Problem, w: usize, rounds: u32, ceiling: i32, arcs: &mut [u8], cells: &mut [i32])
     requires { ⌜ Ready p w × Within 2000000 ceiling × (now arcs ≡ laid 8 w (built relaxed (campaignOf p) w)) × (length (now cells) ≡ cellsNeed (campaignOf p) w) ⌝ }
     ensures arcs { λ r. ⌜ now (arcs .exit) ≡ laid 8 w (relaxedArcs (campaignOf p) w rounds ceiling) ⌝ }

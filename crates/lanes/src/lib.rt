@@ -57,6 +57,7 @@ pub fn sum_of(x: [i32; 17], y: [i32; 17]) -> [i32; 17]
     z
 }
 
+// The lesser of two.
 fn lesser(a: i32, b: i32) -> i32
     ensures { λ r. ⌜ r ≡ minZ a b ⌝ }
 {

@@ -10,6 +10,7 @@ use lib.ListN.{length, getD, set, take, drop, replicate, length-map, length-appe
 use lib.Seq.{paste, paste-suc, drop-drop, take-take, take-append-le, drop-append-add, ext-getD, take-all, take-at, drop-at}
 use Rattle.laws.specs.Lists.{every, padded, parted, gather, from}
 use Rattle.laws.proofs.Lists.{getD-map, length-from, getD-from}
+use Rattle.laws.proofs.Each.{Each}
 use Rattle.laws.proofs.Parts.{length-fields}
 
 module _ {A : Type 0} (z : A) where
@@ -149,3 +150,16 @@ part-pasted d at s n h e =
     ∙ ap (take n) (drop-at (take at d) (take n s ++ drop (at + n) d) at (omega (arith, length-take at d)))
     ∙ take-at (take n s) (drop (at + n) d) n (ap length whole ∙ e)
     ∙ whole
+
+-- what holds of each, and of what it is filled up with
+pub each-padded : {A : Type 0} (P : A → Type 0) (n : ℕ) (z : A) (l : List A) → P z → Each P l → Each P (padded n z l)
+each-padded P zero z l h e = tt
+each-padded P (suc n) z [] h e = (h, each-padded P n z [] h tt)
+each-padded P (suc n) z (x ∷ l) h e = (e .0, each-padded P n z l h (e .1))
+
+-- a list that is long enough is not filled up
+pub padded-full : {A : Type 0} (n : ℕ) (z : A) (l : List A) → length l ≡ n → padded n z l ≡ l
+padded-full zero z [] e = refl
+padded-full zero z (x ∷ l) e = absurd (omega arith)
+padded-full (suc n) z [] e = absurd (omega arith)
+padded-full (suc n) z (x ∷ l) e = ap (λ m. x ∷ m) (padded-full n z l (omega arith))

@@ -108,6 +108,13 @@ pub length-from : (k n : ℕ) → length (from k n) ≡ n
 length-from k zero = refl
 length-from k (suc n) = ap suc (length-from (suc k) n)
 
+pub from-more : (v n : ℕ) → from v (n + 1) ≡ from v n ++ (v + n) ∷ []
+from-more v zero = let o : v + 0 ≡ v = omega arith in rw o refl
+from-more v (suc n) =
+    let o : v + suc n ≡ suc v + n = omega arith in
+    let p : suc n + 1 ≡ suc (n + 1) = omega arith in
+    rw (o, p) (ap (λ (l : List ℕ). v ∷ l) (from-more (suc v) n))
+
 pub getD-from : (k n v : ℕ) → v < n → getD (from k n) v 0 ≡ k + v
 getD-from k zero v h = absurd (omega arith)
 getD-from k (suc n) zero h = omega arith

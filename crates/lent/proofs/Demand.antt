@@ -1,4 +1,4 @@
--- Demand 2, over files: what do an accepted call's buffers and bound say of the lawful plans? The covering, the soundness, both bounds, and what may be claimed.
+-- Demand 2, over files: what do a served call's arcs, bound and plan say of the lawful plans? The covering, the soundness, both bounds, and what may be claimed.
 use mathlib.Core.Path.{_≡_, refl, sym, ap, subst, _∙_}
 use mathlib.Core.List.{List, []}
 use mathlib.Core.Bool.{Bool, true, false, true≢false}
@@ -7,7 +7,7 @@ use mathlib.Core.Option.{Option, none, some, Option·map}
 use Prim.Native.Nat.{ℕ, zero, suc, _≤_, _<_}
 use native.Mathlib.Omega.{arith}
 use lib.ListN.{length, take, replicate}
-use lib.IntN.{ℤ}
+use lib.IntN.{ℤ, pos}
 use lib.Signed.{leZ, _≤ℤ_}
 use Rattle.laws.specs.Z.{zarith}
 use Rattle.laws.specs.Lists.{every, padded}
@@ -18,12 +18,13 @@ use Rattle.meaning.specs.Diagram.{relaxed, restricted, Arcs, built, isExact}
 use Rattle.meaning.specs.Filter.{onPath, within, rounds, drops, relaxedArcs, restrictedArcs}
 use Rattle.meaning.specs.Bound.{isPath, dual, shown, least}
 use Rattle.meaning.specs.Buffers.{arcBytes, arcsIn, arcsNeed, planBytes}
-use Rattle.meaning.specs.File.{readOf, got}
-use Rattle.meaning.specs.Calls.{Bound, Lent, Done, unless, boundOf, noBound, relaxedDone, relaxedFault, relaxedCall, restrictedDone, restrictedFault, restrictedCall}
+use Rattle.meaning.specs.File.{Got, readOf, refused, got}
+use Rattle.meaning.specs.Calls.{Bound, Lent, Done, unless, opened, boundOf, noBound, relaxedDone, relaxedFault, relaxedOf, relaxedCall, restrictedDone, restrictedFault, restrictedOf, restrictedCall}
 use Rattle.meaning.proofs.Bytes.{isByte}
 use Rattle.meaning.proofs.Order.{lawful-allowed, allowed-length}
 use Rattle.meaning.proofs.Faultless.{some-slot}
 use Rattle.meaning.proofs.Files.{accepted-in-range}
+use Rattle.meaning.proofs.Rows.{refused-range}
 use Rattle.meaning.proofs.Exact.{same-word}
 use Rattle.meaning.proofs.Keeps.{AtMost, kept, dual-at-most}
 use Rattle.meaning.proofs.Restricted.{restricted-lawful}
@@ -59,6 +60,7 @@ pub record Relaxes (q : Campaign) (w : ℕ) (c : ℤ) (d : Done Bound) : Type 0 
   pub covers : (b : List ℕ) → lawful q b ≡ true → cost q b ≤ℤ c → isPath (arcsIn q w (d .lent .arcs)) b ≡ true
   -- "the dual bound is at most the cost of each such plan, and is missing only if there is none"
   pub bounds : (b : List ℕ) → lawful q b ≡ true → cost q b ≤ℤ c → (d .answer .present ≡ true) × (d .answer .bound ≤ℤ cost q b)
+  pub none : d .answer .present ≡ false → (d .answer .bound ≡ pos 0) × ((b : List ℕ) → lawful q b ≡ true → cost q b ≤ℤ c → ⊥)
 
 -- ---- what a served restricted call says
 -- of the plan in the third buffer, its first n bytes
@@ -81,6 +83,11 @@ pub record Restricts (q : Campaign) (w : ℕ) (d : Done Bound) : Type 0 where
 at-most-bound : (o : Option ℤ) (t : Bool) (z : ℤ) → AtMost o z → (boundOf o t .present ≡ true) × (boundOf o t .bound ≤ℤ z)
 at-most-bound none t z h = absurd h
 at-most-bound (some y) t z h = (refl, h)
+
+-- a missing bound's room is zero
+no-bound : (o : Option ℤ) (t : Bool) → boundOf o t .present ≡ false → boundOf o t .bound ≡ pos 0
+no-bound none t e = refl
+no-bound (some z) t e = absurd (true≢false e)
 
 bound-exact : (o : Option ℤ) (t : Bool) → boundOf o t .exact ≡ t
 bound-exact none t = refl
@@ -166,6 +173,7 @@ module _ (f : List ℕ) (low : every isByte f ≡ true) (p : Problem) (rest : Li
       (record {
         covers = λ b k m. relaxed-there q w n (length (l .arcs)) c hw (x .0 .1 .0) b ∙ kept q w n c b k m hw;
         bounds = λ b k m. at-most-bound (dual q w n c) (isExact relaxed q w) (cost q b) (dual-at-most q w n c b k m hw);
+        none = λ m. (no-bound (dual q w n c) (isExact relaxed q w) m, λ b k o. true≢false (sym (at-most-bound (dual q w n c) (isExact relaxed q w) (cost q b) (dual-at-most q w n c b k o hw) .0) ∙ m));
       })
 
   -- the primal side
@@ -199,3 +207,24 @@ module _ (f : List ℕ) (low : every isByte f ≡ true) (p : Problem) (rest : Li
         ap (λ (d : Done Bound). d .answer) (x .1) ∙ (λ t. boundOf (both .0 t) (exact t)),
         ap (λ (d : Done Bound). d .answer) (y .1) ∙ (λ t. boundOf (both .1 t) ((sym (same-word q w) ∙ exact) t)),
       )
+
+-- ---- number 0 says that the file was accepted
+pub record Accepted (f : List ℕ) : Type 0 where
+  pub problem : Problem
+  pub rest : List ℕ
+  pub is : readOf f ≡ got problem rest
+
+-- a call that gives a refused file's number gives no 0
+accepted : (f : List ℕ) {A : Type 0} (number : A → ℕ) (refusal : ℕ → A) (done : Campaign → A) → ((k : ℕ) → number (refusal k) ≡ k)
+    → number (opened (readOf f) refusal done) ≡ 0 → Accepted f
+accepted f number refusal done same e = go (readOf f) refl e
+  where
+    go : (g : Got Problem) → readOf f ≡ g → number (opened g refusal done) ≡ 0 → Accepted f
+    go (refused k) h z = absurd (omega (arith, refused-range f k h, same k))
+    go (got p rest) h z = record { problem = p; rest = rest; is = h }
+
+pub relaxed-accepted : (f : List ℕ) (w n : ℕ) (c : ℤ) (l : Lent) → relaxedCall f w n c l .answer .number ≡ 0 → Accepted f
+relaxed-accepted f w n c l = accepted f (λ (d : Done Bound). d .answer .number) (noBound l) (λ q. relaxedOf q w n c l) (λ k. refl)
+
+pub restricted-accepted : (f : List ℕ) (w : ℕ) (l : Lent) → restrictedCall f w l .answer .number ≡ 0 → Accepted f
+restricted-accepted f w l = accepted f (λ (d : Done Bound). d .answer .number) (noBound l) (λ q. restrictedOf q w l) (λ k. refl)

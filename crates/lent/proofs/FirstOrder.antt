@@ -9,7 +9,7 @@ use lib.ListN.{length, getD}
 use lib.IntN.{pos}
 use Rattle.laws.specs.Z.{minZ, eqZ, eqZ→, eqZ-refl}
 use Rattle.laws.specs.Lists.{place, flat, from}
-use Rattle.laws.proofs.Lists.{and-l, and-r, no-true, In, here, there}
+use Rattle.laws.proofs.Lists.{and-l, and-r, no-true}
 use Rattle.laws.proofs.Each.{Each, each-flat}
 use Rattle.meaning.specs.Plan.{Campaign, allows}
 use Rattle.meaning.specs.Diagram.{State, eqState, child, reaches, mayKeepAll, Node, firstAppearance, arrival, arrivals, has, arrive, distinct, placed, ranked, states}
@@ -116,11 +116,6 @@ differ-arrive c (n ∷ l) h = go (has (c .0) n) refl (differ-arrive c l (h .1))
     go true e r = h
     go false e r = (differs-arrive (n .0) c l (eqState-swap (c .0) (n .0) e) (h .0), r)
 
-pub differ-distinct : (seen : List Node) (os : List (Option Node)) → AllDiffer seen → AllDiffer (distinct seen os)
-differ-distinct seen [] h = h
-differ-distinct seen (none ∷ os) h = differ-distinct seen os h
-differ-distinct seen (some c ∷ os) h = differ-distinct (arrive c seen) os (differ-arrive c seen h)
-
 each-below : {A : Type 0} (P : A → Type 0) (l : List A) (k : ℕ) (d : A) → k < length l → Each P l → P (getD l k d)
 each-below P [] k d b h = absurd (omega arith)
 each-below P (x ∷ l) zero d b h = h .0
@@ -136,24 +131,6 @@ place-is t (n ∷ l) (suc k) h b e =
     rw other (ap suc (place-is t l k (h .1) (omega arith) e))
 
 -- ---- places
--- nowhere is the length
-pub place-le : {A : Type 0} (f : A → Bool) (l : List A) → place f l ≤ length l
-place-le f [] = omega arith
-place-le f (x ∷ l) = go (f x) (place-le f l)
-  where
-    go : (t : Bool) → place f l ≤ length l → cond t 0 (suc (place f l)) ≤ suc (length l)
-    go true h = omega arith
-    go false h = omega arith
-
--- a place does not change when a list grows at its end
-pub place-append : {A : Type 0} (f : A → Bool) (l m : List A) → place f l < length l → place f (l ++ m) ≡ place f l
-place-append f [] m b = absurd (omega arith)
-place-append f (x ∷ l) m b = go (f x) b (place-append f l m)
-  where
-    go : (t : Bool) → cond t 0 (suc (place f l)) < suc (length l) → (place f l < length l → place f (l ++ m) ≡ place f l)
-        → cond t 0 (suc (place f (l ++ m))) ≡ cond t 0 (suc (place f l))
-    go true h r = refl
-    go false h r = ap suc (r (omega arith))
 
 -- ---- looking a child up: it is nowhere, and stands behind all others; or it is there, and nothing changes
 pub arrive-new : (c : Node) (l : List Node) → place (has (c .0)) l ≡ length l → arrive c l ≡ l ++ c ∷ []
@@ -192,11 +169,6 @@ length-arrive c (n ∷ l) = go (has (c .0) n) (length-arrive c l)
     go true h = omega arith
     go false h = omega arith
 
-length-distinct : (seen : List Node) (os : List (Option Node)) → length seen ≤ length (distinct seen os)
-length-distinct seen [] = omega arith
-length-distinct seen (none ∷ os) = length-distinct seen os
-length-distinct seen (some c ∷ os) = omega (arith, length-arrive c seen, length-distinct (arrive c seen) os)
-
 abbrev pub Placed : State → List Node → Type 0
 Placed t l = place (has t) l < length l
 
@@ -224,13 +196,6 @@ placed-arrive c (n ∷ l) = go (has (c .0) n) refl (placed-arrive c l)
     go : (t : Bool) → has (c .0) n ≡ t → Placed (c .0) (arrive c l) → Placed (c .0) (cond t ((n .0, minZ (n .1) (c .1)) ∷ l) (n ∷ arrive c l))
     go true e h = rw e (omega arith)
     go false e h = rw e (omega arith)
-
-pub placed-distinct : (c : Node) (seen : List Node) {os : List (Option Node)} → In (some c) os → Placed (c .0) (distinct seen os)
-placed-distinct c seen (here {l = os}) =
-    let there = placed-arrive c seen in
-    omega (arith, place-distinct (c .0) (arrive c seen) os there, length-distinct (arrive c seen) os)
-placed-distinct c seen (there {u = none} h) = placed-distinct c seen h
-placed-distinct c seen (there {u = some d} h) = placed-distinct c (arrive d seen) h
 
 -- more arrivals
 pub distinct-more : (seen : List Node) (os ps : List (Option Node)) → distinct seen (os ++ ps) ≡ distinct (distinct seen os) ps

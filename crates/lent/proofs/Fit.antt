@@ -12,11 +12,11 @@ use lib.IntN.{pos}
 use lib.Signed.{leZ}
 use Rattle.laws.specs.Z.{Within}
 use Rattle.laws.specs.Lists.{from}
-use Rattle.laws.proofs.Each.{Each, each-at, each-more, each-map}
+use Rattle.laws.proofs.Each.{Each, each-at, each-map}
 use Rattle.meaning.specs.Plan.{Rule, Campaign}
 use Rattle.meaning.specs.Diagram.{State, mergedState, child, starts, Arcs}
 use Rattle.meaning.specs.Filter.{Numbers, meet, over, zeros, begins, upArc, upNode, ups, downNode, downAt, nodeCount, downs, downNumbers, upNumbers}
-use Rattle.meaning.proofs.Sizes.{larger, added, either}
+use Rattle.meaning.proofs.Sizes.{added, either}
 use Rattle.lent.specs.Led.{firstUps}
 use Rattle.lent.specs.Small.{Small, FitPair, Fit, FewBytes}
 
@@ -53,14 +53,6 @@ child-pairs h k l (r ∷ rs) i v b (p ∷ t) e w = ((added (omega arith) (e .0 .
 
 -- ---- one node
 module _ (q : Campaign) where
-  pub fit-more : (h k : ℕ) → h ≤ k → (d : Numbers) → Fit q h d → Fit q k d
-  fit-more h k l none f = tt
-  fit-more h k l (some a) f = record {
-    long = f .long;
-    pairs = each-more (FitPair h) (FitPair k) (λ p e. (larger (omega arith) (e .0), larger (omega arith) (e .1))) (a .0) (f .pairs);
-    cost = larger (omega arith) (f .cost);
-  }
-
   pub meet-fit : (h : ℕ) (a b : Numbers) → Fit q h a → Fit q h b → Fit q h (meet a b)
   meet-fit h none b f g = g
   meet-fit h (some a) none f g = f

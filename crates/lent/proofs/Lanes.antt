@@ -11,7 +11,7 @@ use lib.Signed.{leZ}
 use Rattle.laws.specs.Z.{zarith, sum, neg, parts, minZ, maxZ, Within, sum-within}
 use Rattle.laws.specs.Lists.{padded}
 use Rattle.laws.proofs.Lists.{and-both, and-true, and-false}
-use Rattle.laws.proofs.Filled.{length-padded}
+use Rattle.laws.proofs.Filled.{length-padded, each-padded}
 use Rattle.laws.proofs.Each.{Each, each-append}
 use Rattle.lent.specs.Lanes.{zipped, sums, atMost}
 
@@ -22,11 +22,6 @@ block z low high cost = padded 8 z low ++ padded 8 z high ++ (cost ∷ [])
 pub length-block : (z : ℤ) (l h : List ℤ) (c : ℤ) → length (block z l h c) ≡ 17
 length-block z l h c =
     omega (arith, length-append (padded 8 z l ++ padded 8 z h) (c ∷ []), length-append (padded 8 z l) (padded 8 z h), length-padded z 8 l, length-padded z 8 h)
-
-pub each-padded : {A : Type 0} (P : A → Type 0) (n : ℕ) (z : A) (l : List A) → P z → Each P l → Each P (padded n z l)
-each-padded P zero z l p h = tt
-each-padded P (suc n) z [] p h = (p, each-padded P n z [] p h)
-each-padded P (suc n) z (x ∷ l) p h = (h .0, each-padded P n z l p (h .1))
 
 pub each-block : (P : ℤ → Type 0) (z : ℤ) (l h : List ℤ) (c : ℤ) → P z → Each P l → Each P h → P c → Each P (block z l h c)
 each-block P z l h c p a b d =

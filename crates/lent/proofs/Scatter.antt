@@ -1,11 +1,10 @@
--- Does bringing each arc's number to its place give the down numbers, and raising a node by each arc its up numbers? Both, and turn by turn.
+-- Does bringing each arc's number to its place give the down numbers, and raising a node by each arc its up numbers?
 use mathlib.Core.Path.{_≡_, refl, sym, _∙_, ap}
 use mathlib.Core.List.{List, [], _∷_, map}
 use mathlib.Core.Bool.{Bool, true, false, cond}
 use mathlib.Core.Option.{none, some}
 use Prim.Native.Nat.{ℕ, zero, suc, _+_, _<_}
 use native.Mathlib.Omega.{arith}
-use native.Mathlib.Nat.{zero-add}
 use borrow.Author.Tests.{eqb-true, eqb-false, ne-eqb}
 use lib.Dec.{eqb}
 use lib.ListN.{length, getD, set, take, replicate, length-set, length-replicate, getD-replicate}
@@ -104,10 +103,6 @@ module _ (q : Campaign) (i : ℕ) where
       let p : suc v + 1 ≡ suc (v + 1) = omega arith in
       rw (o, p) (turn d (suc u) bs (brought b (over q i u d) l) v (omega arith))
 
-  pub node-turn : (d : Numbers) (bs : List ℕ) (l : List Numbers) (v : ℕ) → v < length bs
-      → broughtNode q i d 0 (take (v + 1) bs) l ≡ brought (getD bs v 0) (over q i v d) (broughtNode q i d 0 (take v bs) l)
-  node-turn d bs l v h = rw zero-add at (turn d 0 bs l v h)
-
   -- ---- of every parent
   pub length-layer : (ds : List Numbers) (bss : List (List ℕ)) (l : List Numbers) → length (broughtLayer q i ds bss l) ≡ length l
   length-layer [] bss l = refl
@@ -120,16 +115,6 @@ module _ (q : Campaign) (i : ℕ) where
   layer-at (d ∷ ds) (bs ∷ bss) l k h =
       layer-at ds bss (broughtNode q i d 0 bs l) k (rw (length-node d 0 bs l) h) ∙ ap (λ (n : Numbers). meet n (downAt q i k ds bss)) (node-at d 0 bs l k h)
       ∙ meet-assoc (getD l k none) (downNode q i k d 0 bs) (downAt q i k ds bss)
-
-  -- one parent more
-  pub layer-turn : (ds : List Numbers) (bss : List (List ℕ)) (l : List Numbers) (j : ℕ) → j < length ds → j < length bss
-      → broughtLayer q i (take (j + 1) ds) (take (j + 1) bss) l ≡ broughtNode q i (getD ds j none) 0 (getD bss j []) (broughtLayer q i (take j ds) (take j bss) l)
-  layer-turn [] bss l j h k = absurd (omega arith)
-  layer-turn (d ∷ ds) [] l j h k = absurd (omega arith)
-  layer-turn (d ∷ ds) (bs ∷ bss) l zero h k = refl
-  layer-turn (d ∷ ds) (bs ∷ bss) l (suc j) h k =
-      let p : suc j + 1 ≡ suc (j + 1) = omega arith in
-      rw p (layer-turn ds bss (broughtNode q i d 0 bs l) j (omega arith) (omega arith))
 
   -- the down numbers of the next layer, which has w nodes
   pub scattered : (w : ℕ) (ds : List Numbers) (bss : List (List ℕ)) → broughtLayer q i ds bss (replicate w none) ≡ map (λ k. downAt q i k ds bss) (from 0 w)
@@ -159,7 +144,3 @@ module _ (q : Campaign) (i : ℕ) where
         let o : u + suc v ≡ suc u + v = omega arith in
         let p : suc v + 1 ≡ suc (v + 1) = omega arith in
         rw (o, p) (raises (suc u) bs (meet x (upArc q i us u b)) v (omega arith))
-
-    pub raised-turn : (bs : List ℕ) (x : Numbers) (v : ℕ) → v < length bs
-        → raised q i us 0 (take (v + 1) bs) x ≡ meet (raised q i us 0 (take v bs) x) (upArc q i us v (getD bs v 0))
-    raised-turn bs x v h = rw zero-add at (raises 0 bs x v h)

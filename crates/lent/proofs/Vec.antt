@@ -13,7 +13,7 @@ use lib.Signed.{leZ}
 use Rattle.laws.specs.Z.{zarith, neg, parts, minZ, Within, widen, eqZ-no}
 use Rattle.laws.specs.Lists.{gather, from, padded}
 use Rattle.laws.proofs.Lists.{length-from, getD-from}
-use Rattle.laws.proofs.Filled.{length-padded, length-rows}
+use Rattle.laws.proofs.Filled.{length-padded, length-rows, each-padded}
 use Rattle.laws.proofs.Each.{Each, each-more, each-map, each-gather, each-from}
 use Rattle.meaning.specs.Plan.{Rule, Campaign}
 use Rattle.meaning.specs.Diagram.{State, mergedState, child}
@@ -22,8 +22,8 @@ use Rattle.meaning.proofs.Sizes.{larger}
 use Rattle.lent.specs.Lanes.{lanesAt, sums, leasts}
 use Rattle.lent.specs.Passes.{Slot, Row, far}
 use Rattle.lent.specs.Vec.{vec, arcVec, slotVec, rowVec, limitVec}
-use Rattle.lent.specs.Small.{Small, CeilingFits, FitPair, FitSome, Fit}
-use Rattle.lent.proofs.Lanes.{length-block, each-padded, each-block, block-cost, padded-at, zipped-block, neg-sum, neg-max}
+use Rattle.lent.specs.Small.{Small, FitPair, FitSome, Fit}
+use Rattle.lent.proofs.Lanes.{length-block, each-block, block-cost, padded-at, zipped-block, neg-sum, neg-max}
 
 -- ---- 17 lanes
 pub length-vec : (d : Numbers) → length (vec d) ≡ 17
@@ -64,14 +64,6 @@ module _ (q : Campaign) (s : Small q) where
       let shares = each-map (λ (r : Rule). (i v : ℕ) → v < 8 → Within 7000 (r .share i v)) (Within 4000000) (λ r. r .share i v) (λ r k. widen tt (k i v l)) (q .rules) (s .shares) in
       let all = map (λ (r : Rule). r .share i v) (q .rules) in
       each-block (Within 4000000) (pos 0) all (map negℤ all) (q .price i v) within-zero shares (each-neg 4000000 all shares) (widen tt (s .prices i v l))
-
-  pub limit-within : (e : Test) → CeilingFits e → Each (Within 4000000) (limitVec e q)
-  limit-within onPath h = each-padded (Within 4000000) 17 (pos 2000000) [] (record { size = omega arith }) tt
-  limit-within (within c) h =
-      let low = each-map (λ (r : Rule). Within 200000 (r .lb) × Within 200000 (r .ub)) (Within 4000000) (λ r. r .ub) (λ r k. widen tt (k .1)) (q .rules) (s .bounds) in
-      let high = each-map (λ (r : Rule). Within 200000 (r .lb) × Within 200000 (r .ub)) (Within 4000000) (λ r. r .lb) (λ r k. widen tt (k .0)) (q .rules) (s .bounds) in
-      each-block (Within 4000000) (pos 2000000) (map (λ r. r .ub) (q .rules)) (map negℤ (map (λ r. r .lb) (q .rules))) c
-      (record { size = omega arith }) low (each-neg 4000000 (map (λ r. r .lb) (q .rules)) high) (widen tt h)
 
 -- ---- rows of 17 lanes
 module _ {A : Type 0} where
@@ -130,8 +122,6 @@ module _ (q : Campaign) (s : Small q) where
   }
 
 -- ---- a node without numbers
-pub far-none : far (vec none) ≡ true
-far-none = refl
 
 pub far-some : (q : Campaign) (h : ℕ) → h ≤ 24 → (a : State × ℤ) → FitSome q h a → far (vec (some a)) ≡ false
 far-some q h few a f = rw (block-cost (pos 0) (map (λ p. p .0) (a .0)) (map negℤ (map (λ p. p .1) (a .0))) (a .1) (pos 0)) (eqZ-no {a = a .1} {b = pos 4000000} (λ e. omega (zarith, parts (a .1), f .cost .size)))

@@ -11,13 +11,13 @@ use native.Mathlib.Decide.{decLt}
 use borrow.Author.Tests.{ne-eqb, leb-true}
 use lib.Dec.{leb}
 use lib.ListN.{length, getD, take, drop, replicate, length-map, length-append, length-replicate, length-drop, List·getD-eq-default, drop-of-length-le}
-use lib.Seq.{length-take-le, drop-cons, getD-drop, drop-append-add, take-all, take-at, drop-at}
+use lib.Seq.{length-take-le, drop-cons, getD-drop, drop-append-add, take-at, drop-at}
 use lib.IntN.{ℤ, pos, negℤ}
 use Rattle.laws.specs.Z.{Within}
 use Rattle.laws.specs.Lists.{every, flat, gather, from, padded, parted}
 use Rattle.laws.proofs.Lists.{and-l, and-r, length-from, getD-map}
 use Rattle.laws.proofs.Parts.{length-fields}
-use Rattle.laws.proofs.Filled.{length-padded, take-padded, length-rows, getD-parted}
+use Rattle.laws.proofs.Filled.{length-rows, getD-parted, padded-full}
 use Rattle.laws.proofs.Each.{Each, each-at, each-more, each-from, each-gather, each-map, every-each}
 use Rattle.meaning.specs.Plan.{Campaign}
 use Rattle.meaning.specs.Diagram.{Arcs}
@@ -231,9 +231,6 @@ place-on g d n zero [] = refl
 place-on g d n (suc j) [] = refl
 place-on g d n zero (x ∷ l) = refl
 place-on g d n (suc j) (x ∷ l) = place-on g d n j l
-
-padded-full : {A : Type 0} (n : ℕ) (z : A) (l : List A) → length l ≡ n → padded n z l ≡ l
-padded-full n z l e = sym (take-all n (padded n z l) (omega (arith, length-padded z n l))) ∙ ap (λ (k : ℕ). take k (padded n z l)) (sym e) ∙ take-padded z n l (omega arith)
 
 -- cells by their places, from layer i on
 cells-blocks : (k w : ℕ) (ds us : List (List Numbers)) → length us ≡ length ds → (x : ℕ → List ℤ) → ((j : ℕ) → x j ≡ flat (cellsOf k (padded w none (getD ds j [])) (padded w none (getD us j []))))

@@ -9,7 +9,7 @@ use lib.ListN.{length, take, drop, take-append-drop, length-drop, drop-of-length
 use lib.Seq.{length-take-le, take-all, take-take, drop-drop, drop-append-add, take-at, drop-at}
 use Rattle.laws.specs.Lists.{gather, from, same}
 use Rattle.laws.proofs.Filled.{take-within, gather-more}
-use Rattle.slot.proofs.Laws.{from-more}
+use Rattle.laws.proofs.Lists.{from-more}
 use Rattle.rows.proofs.Laid.{place-in, put, put-pastes, pasted-first, pasted-long}
 use Rattle.rows.proofs.Up.{same-append}
 

@@ -12,7 +12,7 @@ use Rattle.laws.specs.Z.{Within, zarith, sum, widen, sum-within}
 use Rattle.laws.specs.Lists.{from, padded}
 use Rattle.laws.proofs.Lists.{map-same}
 use Rattle.laws.proofs.Each.{Each, each-map, each-keep, each-from}
-use Rattle.laws.proofs.Filled.{length-padded, padded-none, part-pasted}
+use Rattle.laws.proofs.Filled.{length-padded, padded-none, part-pasted, each-padded}
 use lib.Signed.{leZ}
 use Rattle.meaning.specs.Plan.{Rule, Campaign, slots, bit, stepsOf}
 use Rattle.meaning.proofs.Sizes.{larger, either}
@@ -20,7 +20,6 @@ use Rattle.meaning.specs.Diagram.{Pair, State, merged, mergedState, span, reach
 use Rattle.lent.specs.Vec.{slotVec}
 use Rattle.lent.specs.Small.{Small}
 use Rattle.lent.proofs.Scatter.{min-assoc, max-assoc}
-use Rattle.lent.proofs.Lanes.{each-padded}
 use Rattle.lent.proofs.Vec.{slot-at, slot-vec}
 use Rattle.state.specs.Pairs.{Inside, shifted, added, paired, unpaired}
 use Rattle.state.proofs.Sizes.{inside-more}

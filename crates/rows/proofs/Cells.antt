@@ -2,9 +2,8 @@
 use mathlib.Core.Path.{_≡_, refl, sym, ap, _∙_}
 use mathlib.Core.Bool.{Bool, true, false, _||_, cond}
 use mathlib.Core.List.{List, [], _∷_, _++_, map, map-append, append-nil}
-use Prim.Native.Nat.{ℕ, zero, suc, _+_, _*_, _≤_, _<_}
+use Prim.Native.Nat.{ℕ, suc, _+_, _*_, _≤_, _<_}
 use native.Mathlib.Nat.{suc-add}
-use native.Mathlib.Numerals.{add-one}
 use native.Mathlib.Omega.{arith}
 use lib.Dec.{T, leb}
 use lib.ListN.{length, getD, set, drop, replicate, length-map, length-append, length-replicate, length-drop, drop-of-length-le}
@@ -14,9 +13,9 @@ use mir.Syntax.{w32}
 use mir.Val.{SFits}
 use Rattle.laws.specs.Z.{zarith, dif, neg, parts, eqZ, Within, widen, fits32, back, back-is}
 use Rattle.laws.specs.Lists.{gather, from, padded}
-use Rattle.laws.proofs.Lists.{length-from, cond-first}
+use Rattle.laws.proofs.Lists.{length-from, cond-first, from-more}
 use Rattle.laws.proofs.Each.{Each, each-of, each-append, each-map}
-use Rattle.laws.proofs.Filled.{length-padded, padded-more, length-rows, gather-more}
+use Rattle.laws.proofs.Filled.{length-padded, padded-more, length-rows, gather-more, each-padded}
 use Rattle.lent.specs.Passes.{far, nowhere, nodeLanes, downLanes}
 use Rattle.lanes.proofs.Laws.{lane-within}
 use Rattle.rows.proofs.Lanes.{each-replicate}
@@ -37,13 +36,6 @@ module _ {z : ℤ} {m : ℕ} (h : Within m z) (t : T (leb m 2147483647)) where
   turned = rw minus (back-is within-neg t)
 
 -- ---- places below r, and one more
-from-more : (k n : ℕ) → from k (n + 1) ≡ from k n ++ (k + n) ∷ []
-from-more k n = rw add-one (go k n)
-  where
-    go : (k n : ℕ) → from k (suc n) ≡ from k n ++ (k + n) ∷ []
-    go k zero = let o : k + 0 ≡ k = omega arith in rw o refl
-    go k (suc n) = let o : k + suc n ≡ suc k + n = omega arith in rw o (ap (λ l. k ∷ l) (go (suc k) n))
-
 module _ {A : Type 0} where
   set-behind : (l h : List A) (n : ℕ) (a : A) → set (l ++ h) (length l + n) a ≡ l ++ set h n a
   set-behind [] h n a = let o : 0 + n ≡ n = omega arith in rw o refl
@@ -183,11 +175,6 @@ length-node m d u = go (far d || far u)
     go : (t : Bool) → length (cond t (replicate (4 * m + 3) (pos 0)) rules) ≡ 4 * m + 3
     go true = length-replicate (4 * m + 3) (pos 0)
     go false = length-append (pos 1 ∷ gather (ruleOf d u) (from 0 m)) (getD d 16 (pos 0) ∷ getD u 16 (pos 0) ∷ []) ∙ omega (arith, rules-long d u m)
-
-each-padded : {A : Type 0} (P : A → Type 0) (n : ℕ) (z : A) (l : List A) → P z → Each P l → Each P (padded n z l)
-each-padded P zero z l h k = tt
-each-padded P (suc n) z [] h k = (h, each-padded P n z [] h tt)
-each-padded P (suc n) z (x ∷ l) h k = (k .0, each-padded P n z l h (k .1))
 
 pub each-down : (m : ℕ) (c : List ℤ) → Each (Within 4000000) c → Each (Within 4000000) (downLanes m c)
 each-down m c h = go (eqZ (getD c 0 (pos 0)) (pos 0))

@@ -16,9 +16,9 @@ use mir.Val.{SFits, toZ}
 use mir.Facts.{toZ-pos}
 use Rattle.laws.specs.Z.{Within, zarith, parts, dif, neg, widen, sum-within, mul-within, fits32, sum32, back, back-is}
 use Rattle.laws.specs.Lists.{gather, from, padded}
-use Rattle.laws.proofs.Lists.{length-from}
+use Rattle.laws.proofs.Lists.{length-from, from-more}
 use Rattle.laws.proofs.Each.{Each, each-map, each-from}
-use Rattle.laws.proofs.Filled.{padded-more, padded-paste, take-padded, length-padded, length-rows, gather-more}
+use Rattle.laws.proofs.Filled.{padded-more, padded-paste, take-padded, length-padded, length-rows, gather-more, each-padded, padded-full}
 use Rattle.problem.proofs.Shares.{times-is}
 use Rattle.slot.specs.Rows.{coefPart, valuePart, coefParts, valueParts, laneOf, lanesOf, stepLanes, CoefsRight}
 
@@ -65,13 +65,6 @@ module _ {z : ℤ} (w : Within 7001 z) where
   turned-is = rw turned (back-is turned-within tt)
 
 -- ---- one number more
-pub from-more : (v n : ℕ) → from v (n + 1) ≡ from v n ++ (v + n) ∷ []
-from-more v zero = let o : v + 0 ≡ v = omega arith in rw o refl
-from-more v (suc n) =
-    let o : v + suc n ≡ suc v + n = omega arith in
-    let p : suc n + 1 ≡ suc (n + 1) = omega arith in
-    rw (o, p) (ap (λ (l : List ℕ). v ∷ l) (from-more (suc v) n))
-
 pub map-append : {A B : Type 0} (f : A → B) (l m : List A) → map f (l ++ m) ≡ map f l ++ map f m
 map-append f [] m = refl
 map-append f (x ∷ l) m = ap (λ k. f x ∷ k) (map-append f l m)
@@ -95,16 +88,6 @@ set-right (x ∷ xs) ys i a = let o : suc (length xs) + i ≡ suc (length xs + i
 half-more : (l : List ℤ) (r : ℕ) (x : ℤ) → length l ≡ r → r < 8 → set (padded 8 (pos 0) l) r x ≡ padded 8 (pos 0) (l ++ x ∷ [])
 half-more l r x e h = ap (λ k. set (padded 8 (pos 0) l) k x) (sym e) ∙ padded-more (pos 0) 8 l x (omega arith)
 
--- eight of eight
-whole : (l : List ℤ) → length l ≡ 8 → padded 8 (pos 0) l ≡ l
-whole l e = go 8 l e
-  where
-    go : (n : ℕ) (l : List ℤ) → length l ≡ n → padded n (pos 0) l ≡ l
-    go zero [] e = refl
-    go zero (x ∷ l) e = absurd (omega arith)
-    go (suc n) [] e = absurd (omega arith)
-    go (suc n) (x ∷ l) e = ap (λ (m : List ℤ). x ∷ m) (go n l (omega arith))
-
 module _ (ls : List ℤ) (long : length ls ≡ 8) where
   pub filled-more : (r : ℕ) → r < 8 → set (set (filled ls r) r (getD ls r (pos 0))) (8 + r) (negℤ (getD ls r (pos 0))) ≡ filled ls (r + 1)
   filled-more r h =
@@ -127,10 +110,10 @@ module _ (ls : List ℤ) (long : length ls ≡ 8) where
   pub filled-all : (z : ℤ) → set (filled ls 8) 16 z ≡ ls ++ map negℤ ls ++ (z ∷ [])
   filled-all z =
       let all : take 8 ls ≡ ls = take-all 8 ls (omega arith) in
-      let turned : padded 8 (pos 0) (map negℤ ls) ≡ map negℤ ls = whole (map negℤ ls) (length-map ls negℤ ∙ long) in
+      let turned : padded 8 (pos 0) (map negℤ ls) ≡ map negℤ ls = padded-full 8 (pos 0) (map negℤ ls) (length-map ls negℤ ∙ long) in
       let wide : length (ls ++ map negℤ ls) ≡ 16 = length-append ls (map negℤ ls) ∙ omega (arith, length-map ls negℤ) in
       ap (λ l. set (padded 8 (pos 0) l ++ padded 8 (pos 0) (map negℤ l) ++ (pos 0 ∷ [])) 16 z) all
-      ∙ ap (λ l. set (l ++ padded 8 (pos 0) (map negℤ ls) ++ (pos 0 ∷ [])) 16 z) (whole ls long)
+      ∙ ap (λ l. set (l ++ padded 8 (pos 0) (map negℤ ls) ++ (pos 0 ∷ [])) 16 z) (padded-full 8 (pos 0) ls long)
       ∙ ap (λ l. set (ls ++ l ++ (pos 0 ∷ [])) 16 z) turned
       ∙ ap (λ k. set (ls ++ map negℤ ls ++ (pos 0 ∷ [])) k z) (sym wide)
       ∙ set-append-seam (ls ++ map negℤ ls) (pos 0) [] z
@@ -179,16 +162,11 @@ module _ (cs : List ℤ) (bs : List ℕ) (weight : ℤ) (wide : length cs ≡ 8)
       sym (take-all 136 (padded 136 (pos 0) l) (omega (arith, length-padded (pos 0) 136 l))) ∙ ap (λ k. take k (padded 136 (pos 0) l)) (sym long) ∙ take-padded (pos 0) 136 l (omega arith)
 
 -- ---- the coefficients that count are in range
-each-padded : (P : ℤ → Type 0) (z : ℤ) → P z → (n : ℕ) (l : List ℤ) → Each P l → Each P (padded n z l)
-each-padded P z h zero l e = tt
-each-padded P z h (suc n) [] e = (h, each-padded P z h n [] tt)
-each-padded P z h (suc n) (x ∷ l) e = (e .0, each-padded P z h n l (e .1))
-
 pub parts-right : (m i : ℕ) (kinds : List ℕ) (coefs : List ℤ) → CoefsRight m i kinds coefs → Each (Within 1000) (coefParts m i kinds coefs)
 parts-right m i kinds coefs h =
     let f : ℕ → ℤ = λ r. coefPart (getD kinds r 0) (getD coefs (r * 24 + i) (pos 0)) in
     let low : Each (λ r. r < m) (from 0 m) = each-from (λ r. r < m) 0 m (λ v l. rw (zero-add m) at l) in
-    each-padded (Within 1000) (pos 0) none 8 (map f (from 0 m)) (each-map (λ r. r < m) (Within 1000) f part (from 0 m) low)
+    each-padded (Within 1000) 8 (pos 0) (map f (from 0 m)) none (each-map (λ r. r < m) (Within 1000) f part (from 0 m) low)
   where
     none : Within 1000 (pos 0)
     none = record { size = omega arith }

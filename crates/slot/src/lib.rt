@@ -29,11 +29,12 @@ fn value_part(kind: u8, values: u16, slots: u32, i: usize) -> u16
 }
 
 // What the rules count in a slot: of each a coefficient and a set of values; zero past the rules.
-pub struct Parts {
+struct Parts {
     pub coefs: [i32; 8],
     pub values: [u16; 8],
 }
 
+// The parts of every rule in slot i.
 fn parts_of<'a>(
     m: usize,
     i: usize,

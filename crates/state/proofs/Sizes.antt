@@ -11,8 +11,8 @@ use Rattle.laws.specs.Z.{Within, sum-within, back, back-is}
 use Rattle.laws.proofs.Each.{Each, each-more}
 use Rattle.meaning.specs.Diagram as paper
 use Rattle.state.specs.declared.Pair.{Pair}
-use Rattle.state.specs.Pairs.{pairOf, Inside, shifted, added}
-use Rattle.state.proofs.Joined.{shift, add, joined-length, joined-each, shifted-joined, added-joined, merged-joined}
+use Rattle.state.specs.Pairs.{pairOf, Inside, shifted}
+use Rattle.state.proofs.Joined.{shift, joined-length, joined-each, shifted-joined, merged-joined}
 
 -- ---- lengths
 -- of a struct's field that is an array of structs, as owning the struct tells it: `search mapped` where a function begins
@@ -22,15 +22,8 @@ mapped g l n e = sym (length-map l g) ∙ e
 pub pairs-long : (l : List Pair) → length l ≡ 8 → length (map pairOf l) ≡ 8
 pairs-long l e = length-map l pairOf ∙ e
 
--- of its pairs: `search pairs-owned`
-pub pairs-owned : {B : Type 0} (g : Pair → B) (l : List Pair) → length (map g l) ≡ 8 → length (map pairOf l) ≡ 8
-pairs-owned g l e = pairs-long l (mapped g l 8 e)
-
 pub shifted-length : (t : paper.State) (xs : List ℤ) → length t ≡ length xs → length (shifted t xs) ≡ length t
 shifted-length t xs e = ap length (shifted-joined t xs) ∙ joined-length shift t xs e
-
-pub added-length : (t u : paper.State) → length t ≡ length u → length (added t u) ≡ length t
-added-length t u e = ap length (added-joined t u) ∙ joined-length add t u e
 
 pub merged-length : (t u : paper.State) → length t ≡ length u → length (paper.mergedState t u) ≡ length t
 merged-length t u e = ap length (merged-joined t u e) ∙ joined-length paper.merged t u e
@@ -55,12 +48,6 @@ module _ (a b : ℕ) where
   inside-shifted t xs h k =
       rw (shifted-joined t xs)
       (joined-each shift (λ p. Within a (p .0) × Within a (p .1)) (Within b) (λ p. Within (a + b) (p .0) × Within (a + b) (p .1)) (λ p x i j. (sum-within (i .0) j, sum-within (i .1) j)) t xs h k)
-
-  pub inside-added : (t u : paper.State) → Inside a t → Inside b u → Inside (a + b) (added t u)
-  inside-added t u h k =
-      rw (added-joined t u)
-      (joined-each add (λ p. Within a (p .0) × Within a (p .1)) (λ p. Within b (p .0) × Within b (p .1)) (λ p. Within (a + b) (p .0) × Within (a + b) (p .1))
-      (λ p q i j. (sum-within (i .0) (j .0), sum-within (i .1) (j .1))) t u h k)
 
 pub inside-merged : (b : ℕ) (t u : paper.State) → Inside b t → Inside b u → Inside b (paper.mergedState t u)
 inside-merged b [] u h k = k

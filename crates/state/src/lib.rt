@@ -20,6 +20,7 @@ pub struct State {
     pub at: [Pair; 8],
 }
 
+// A pair with something added to its low and its high.
 fn pair_plus(p: Pair, lo: i32, hi: i32) -> Pair
     requires { ⌜ Within 1000000 (p .lo) × Within 1000000 (p .hi) × Within 1000000 lo × Within 1000000 hi ⌝ }
     ensures { λ r. ⌜ pairOf r ≡ (p .lo +ℤ lo, p .hi +ℤ hi) ⌝ }
@@ -62,18 +63,21 @@ pub fn plus(s: State, u: State) -> State
     t
 }
 
+// The lesser of two.
 fn least(a: i32, b: i32) -> i32
     ensures { λ r. ⌜ r ≡ minZ a b ⌝ }
 {
     if a <= b { a } else { b }
 }
 
+// The greater of two.
 fn greatest(a: i32, b: i32) -> i32
     ensures { λ r. ⌜ r ≡ maxZ a b ⌝ }
 {
     if a <= b { b } else { a }
 }
 
+// Least low and greatest high.
 fn merged_pair(p: Pair, q: Pair) -> Pair
     ensures { λ r. ⌜ pairOf r ≡ merged (pairOf p) (pairOf q) ⌝ }
 {
@@ -172,6 +176,7 @@ pub fn laid(row: &mut [i32], at: usize, s: State)
     }
 }
 
+// What each rule's low counts for the bucket.
 const TIMES: [i32; 8] = [613, 397, 511, 301, 459, 547, 271, 653];
 
 // Which of 256 buckets the state belongs to: equal states, equal buckets.

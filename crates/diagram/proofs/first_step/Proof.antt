@@ -10,7 +10,7 @@ use mir.Syntax.{w32}
 use mir.Val.{toZ}
 use mir.Facts.{toZ-ofZ}
 use Rattle.laws.specs.Z.{back, back-within}
-use Rattle.diagram.specs.Answers.{firstCell}
+use Rattle.diagram.specs.Leading.{firstCell}
 use Rattle.diagram.proofs.Steps.{cost-small, cost-there, sum-fits, step-stops, step-goes, step-skips, steps-end}
 use Rattle.diagram.proofs.first_step.Statement.{statement}
 use Rattle.diagram.proofs.first_step.Tie as tie

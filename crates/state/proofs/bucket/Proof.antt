@@ -1,4 +1,4 @@
--- `state::bucket` meets its contract. Assumes nothing.
+-- The lows, each times its number, added up: within 1,750,400,000 and never negative.
 use Prim.Native.Nat.{_+_, _≤_, _-_}
 use native.Mathlib.Nat.{mod-lt}
 use mathlib.Core.Path.{_≡_, refl}

@@ -1,4 +1,4 @@
--- `state::child` meets its contract. Assumes nothing.
+-- Place by place the share is added. The first k places are the child's.
 use Prim.Native.Nat.{_+_, _≤_, _-_}
 use mathlib.Core.Path.{_≡_, refl, sym, _∙_}
 use mathlib.Core.List.{map}

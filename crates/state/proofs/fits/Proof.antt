@@ -1,4 +1,4 @@
--- `state::fits` meets its contract. Assumes nothing.
+-- A flag that falls where a bound is broken. It is the test of the first k places.
 use Prim.Native.Nat.{_≤_, _<_, _-_}
 use mathlib.Core.Path.{_≡_, refl, sym, _∙_}
 use mathlib.Core.Bool.{_&&_}

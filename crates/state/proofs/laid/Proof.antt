@@ -1,4 +1,4 @@
--- `state::laid` meets its contract. Assumes nothing.
+-- Pair by pair into the row. The first 2k numbers are laid.
 use Prim.Native.Nat.{_+_, _*_, _≤_, _<_, _-_}
 use mathlib.Core.Path.{_≡_}
 use mathlib.Core.List.{map}

@@ -1,4 +1,4 @@
--- `state::merged` meets its contract. Assumes nothing.
+-- Place by place least and greatest. The first k places are merged.
 use Prim.Native.Nat.{_≤_, _-_}
 use mathlib.Core.Path.{_≡_, refl, sym, _∙_}
 use mathlib.Core.List.{map}

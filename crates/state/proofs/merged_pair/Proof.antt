@@ -1,4 +1,4 @@
--- `state::merged_pair` meets its contract. Assumes nothing.
+-- Its low is the lesser, its high the greater.
 use mir.Syntax.{w32}
 use mir.Val.{SFits}
 use mir.Facts.{toZ-ofZ}

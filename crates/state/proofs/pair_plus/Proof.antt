@@ -1,4 +1,4 @@
--- `state::pair_plus` meets its contract. Assumes nothing.
+-- Both sums are within 2,000,000.
 use Rattle.laws.specs.Z.{z32}
 use Rattle.state.proofs.Sizes.{sum-back}
 use Rattle.state.proofs.pair_plus.Statement.{statement}

@@ -1,4 +1,4 @@
--- `state::plus` meets its contract. Assumes nothing.
+-- Place by place the sum. The first k places are summed.
 use Prim.Native.Nat.{_≤_, _-_}
 use mathlib.Core.Path.{_≡_, refl, sym, _∙_}
 use mathlib.Core.List.{map}

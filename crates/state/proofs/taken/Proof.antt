@@ -1,4 +1,4 @@
--- `state::taken` meets its contract. Assumes nothing.
+-- Pair by pair from the row. The first k pairs are taken.
 use Prim.Native.Nat.{_+_, _*_, _≤_, _-_}
 use mathlib.Core.Path.{_≡_, refl, sym, _∙_}
 use native.Mathlib.Omega.{arith}
