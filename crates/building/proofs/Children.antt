@@ -10,13 +10,13 @@ use lib.Seq.{take-all}
 use lib.IntN.{ℤ, pos}
 use Rattle.laws.specs.Z.{Within}
 use Rattle.laws.specs.Lists.{gather, flat, from, padded}
-use Rattle.laws.proofs.Each.{Each, each-more, each-map, each-flat, each-from, each-gather}
+use Rattle.laws.proofs.Each.{Each, each-below, each-more, each-map, each-flat, each-from, each-gather}
 use Rattle.laws.proofs.Filled.{length-padded, row-padded, each-padded}
 use Rattle.meaning.specs.Plan.{Rule, Campaign, allows}
 use Rattle.meaning.specs.Diagram.{State, mergedState, child, reach, reaches, mayKeepAll, Node, firstAppearance, arrival, arrivals}
 use Rattle.lent.specs.Vec.{slotVec}
 use Rattle.lent.specs.Small.{Small}
-use Rattle.lent.proofs.Fit.{child-long}
+use Rattle.meaning.proofs.Restricted.{child-length}
 use Rattle.state.specs.Pairs.{Inside, mayFit, paired, unpaired}
 use Rattle.state.proofs.Joined.{noPair}
 use Rattle.state.proofs.Padded.{shifted-child, shifted-padded, fit-padded, inside-padded}
@@ -26,7 +26,7 @@ use Rattle.reach.proofs.Table.{shares-at, shares-small}
 use Rattle.classes.specs.Classes.{Held, stateAt, arrivalAt, noNode}
 use Rattle.building.specs.Layers.{rowOf}
 use Rattle.building.proofs.Filled.{Of, OfIf, fill, Long}
-use Rattle.building.proofs.Lists.{rows-made, map-flat, gather-map, each-below}
+use Rattle.building.proofs.Lists.{rows-made, map-flat, gather-map}
 
 -- ---- totals: m pairs within the size b
 pub record Totals (m b : ℕ) (t : State) : Type 0 where
@@ -63,7 +63,7 @@ module _ (q : Campaign) (small : Small q) (i : ℕ) where
 
   child-totals : (b v : ℕ) → v < 8 → (t : State) → Totals (length (q .rules)) b t → Totals (length (q .rules)) (b + 7000) (child (q .rules) i v t)
   child-totals b v l t h = record {
-    long = child-long (q .rules) i v t (h .long);
+    long = child-length (q .rules) i v t (h .long);
     inside = rw (← shifted-child (q .rules) i v t) (inside-shifted b 7000 t (map (λ r. r .share i v) (q .rules)) (h .inside) (shares-within v l));
   }
 
@@ -123,7 +123,7 @@ module _ (q : Campaign) (small : Small q) (i : ℕ) where
       arrival-at j v h l =
           let step : (j * 8 + v) % 8 ≡ v = omega arith in
           let c = child (q .rules) i v (getD ns j noNode .0) in
-          let long = child-long (q .rules) i v (getD ns j noNode .0) (long-at j h) in
+          let long = child-length (q .rules) i v (getD ns j noNode .0) (long-at j h) in
           let reaches-long = length-map (q .rules) (λ r. reach (q .steps) r (suc i) ss) in
           let fits : mayFit (padded 8 noPair c) ahead bounds ≡ mayKeepAll (q .rules) c (reaches q (suc i) ss) = fit-padded 8 (q .rules) c (reaches q (suc i) ss) long reaches-long (small .rules) in
           let keeps = mayKeepAll (q .rules) c (reaches q (suc i) ss) in

@@ -51,12 +51,6 @@ pub gather-map : {A B C : Type 0} (f : B → List C) (g : A → B) (l : List A) 
 gather-map f g [] = refl
 gather-map f g (x ∷ l) = ap (λ (r : List _). f (g x) ++ r) (gather-map f g l)
 
--- what holds of each holds of the one at a place
-pub each-below : {A : Type 0} (P : A → Type 0) (l : List A) (k : ℕ) (d : A) → k < length l → Each P l → P (getD l k d)
-each-below P [] k d b h = absurd (omega arith)
-each-below P (x ∷ l) zero d b h = h .0
-each-below P (x ∷ l) (suc k) d b h = each-below P l k d (omega arith) (h .1)
-
 module _ {A : Type 0} (P : A → Type 0) where
   pub each-left : (l m : List A) → Each P (l ++ m) → Each P l
   each-left [] m h = tt

@@ -15,7 +15,7 @@ use lib.IntN.{ℤ, pos, _*ℤ_}
 use Rattle.laws.specs.Z.{Within}
 use Rattle.laws.proofs.Filled.{length-padded}
 use Rattle.laws.proofs.Lists.{and-l, and-r}
-use Rattle.laws.proofs.Each.{Each, each-at, each-more, each-take, each-drop}
+use Rattle.laws.proofs.Each.{Each, each-at, each-below, each-more, each-take, each-drop}
 use Rattle.meaning.specs.Plan.{Campaign, slots}
 use Rattle.meaning.specs.Diagram.{State, Arcs}
 use Rattle.meaning.specs.Filter.{Numbers, meet, over, upNode, downNode, downAt, nodeCount, downs, begins, downNumbers, upNumbers, swept}
@@ -30,7 +30,7 @@ use Rattle.lent.specs.Led.{costOf, firstStep, firstUps, led}
 use Rattle.lent.proofs.Places.{made-at, nextDowns}
 use Rattle.lent.proofs.Led.{ups-at, Step, node-step}
 use Rattle.diagram.specs.Leading.{firstCell, Led}
-use Rattle.diagram.proofs.Table.{each-below, bytes-at}
+use Rattle.diagram.proofs.Table.{bytes-at}
 use Rattle.diagram.proofs.Shape.{Form, Shaped}
 use Rattle.diagram.proofs.Cells.{downAt as downOf, upAt, cost-up, source-begins, down-fits, up-fits, cell-at, cells-inside}
 
@@ -256,7 +256,7 @@ module _ (q : Campaign) (s : Small q) (w : ℕ) (wide : 1 ≤ w) (b : Arcs) (h :
       bytes-are = ap (λ (y : List ℕ). take (q .steps) (drop ((i * w + j) * q .steps) y)) arcs-are ∙ bytes-at (q .steps) w a (h .sized) i j there (way .there)
 
       bytes-long : length (getD l j []) ≡ q .steps
-      bytes-long = each-below (λ (bs : List ℕ). length bs ≡ q .steps) l j [] (each-at (λ (l : List (List ℕ)). (length l ≤ w) × Each (λ bs. length bs ≡ q .steps) l) a i [] (omega arith, tt) (h .sized) .1) (way .there)
+      bytes-long = each-below (λ (bs : List ℕ). length bs ≡ q .steps) l j [] (way .there) (each-at (λ (l : List (List ℕ)). (length l ≤ w) × Each (λ bs. length bs ≡ q .steps) l) a i [] (omega arith, tt) (h .sized) .1)
 
       next-long : length y ≡ w * k
       next-long =

@@ -19,16 +19,11 @@ use Rattle.meaning.specs.Buffers.{cellsNeed, nodeNeed, pairCells, nodeCells, al
 use Rattle.lent.specs.Small.{Small, Fit, FewBytes}
 use Rattle.lent.proofs.Places.{nextDowns}
 use Rattle.lent.proofs.Fit.{downs-fit, ups-fit}
-use Rattle.lent.proofs.Cells.{cells-within}
+use Rattle.lent.proofs.Cells.{pairs-long, cells-within}
 use Rattle.diagram.proofs.Table.{table, cells-table, Celled, table-even, table-rows, table-at, table-long, table-each, element-at}
 use Rattle.diagram.proofs.Shape.{Shaped}
 
 -- ---- a node's cells
-pairs-long : (d u : State) → length u ≡ length d → length (pairCells d u) ≡ 4 * length d
-pairs-long [] u e = refl
-pairs-long (p ∷ d) [] e = absurd (omega arith)
-pairs-long (p ∷ d) (o ∷ u) e = omega (arith, pairs-long d u (omega arith))
-
 module _ (q : Campaign) (h k : ℕ) where
   node-long : (d u : Numbers) → Fit q h d → Fit q k u → length (nodeCells (nodeNeed q) d u) ≡ nodeNeed q
   node-long none u f g = length-replicate (nodeNeed q) (pos 0)

@@ -11,18 +11,12 @@ use lib.IntN.{ℤ, pos}
 use Rattle.laws.specs.Lists.{flat, padded}
 use Rattle.laws.proofs.Lists.{getD-map}
 use Rattle.laws.proofs.Filled.{length-padded, take-within, each-padded}
-use Rattle.laws.proofs.Each.{Each, each-at, each-map, each-append, each-flat}
+use Rattle.laws.proofs.Each.{Each, each-at, each-below, each-map, each-append, each-flat}
 use Rattle.meaning.specs.Diagram.{Arcs}
 use Rattle.meaning.specs.Filter.{Numbers}
 use Rattle.meaning.specs.Buffers.{nodeCells, layerCells, allCells}
 use Rattle.lent.specs.Wide.{wide, laid, Sized}
 use Rattle.lent.proofs.Places.{cells-none}
-
--- what holds of each element holds of one that is there
-pub each-below : {A : Type 0} (P : A → Type 0) (l : List A) (k : ℕ) (d : A) → Each P l → k < length l → P (getD l k d)
-each-below P [] k d h b = absurd (omega arith)
-each-below P (x ∷ l) zero d h b = h .0
-each-below P (x ∷ l) (suc k) d h b = each-below P l k d (h .1) (omega arith)
 
 -- ---- rows of k elements each, one behind the other
 module _ {A : Type 0} (k : ℕ) where
@@ -58,7 +52,7 @@ module _ {A : Type 0} (k w : ℕ) where
       → take k (drop ((i * w + j) * k) (flat (map flat t))) ≡ getD (getD t i []) j d
   node-at t h i j d b c =
       let f = flat (map flat t) in
-      let own = each-below (λ l. (length l ≡ w) × Each (λ x. length x ≡ k) l) t i [] h b in
+      let own = each-below (λ l. (length l ≡ w) × Each (λ x. length x ≡ k) l) t i [] b h in
       let place : (i * w + j) * k ≡ i * (w * k) + j * k = add-mul (i * w) j k ∙ ap (λ (n : ℕ). n + j * k) (mul-assoc i w k) in
       let room : j * k + k ≤ w * k = omega (arith, mul-le-mul-right k c, suc-mul j k) in
       rw place (ap (take k) (sym (drop-drop (j * k) (i * (w * k)) f)) ∙ sym (take-within (j * k) k (w * k) (drop (i * (w * k)) f) room))

@@ -4,7 +4,7 @@ use mathlib.Core.List.{List, [], _∷_, _++_, map}
 use mathlib.Core.Bool.{Bool, true, false, cond}
 use Prim.Native.Nat.{ℕ, zero, suc, _+_, _<_}
 use native.Mathlib.Omega.{arith}
-use lib.ListN.{getD, take, drop}
+use lib.ListN.{length, getD, take, drop}
 use Rattle.laws.specs.Lists.{keep, every, gather, flat, from}
 use Rattle.laws.proofs.Lists.{and-l, and-r, and-both, In, here, there}
 
@@ -25,6 +25,11 @@ module _ {A : Type 0} (P : A → Type 0) where
   each-at [] k d z h = z
   each-at (x ∷ l) zero d z h = h .0
   each-at (x ∷ l) (suc k) d z h = each-at l k d z (h .1)
+
+  pub each-below : (l : List A) (k : ℕ) (d : A) → k < length l → Each P l → P (getD l k d)
+  each-below [] k d b h = absurd (omega arith)
+  each-below (x ∷ l) zero d b h = h .0
+  each-below (x ∷ l) (suc k) d b h = each-below l k d (omega arith) (h .1)
 
   pub each-append : (l m : List A) → Each P l → Each P m → Each P (l ++ m)
   each-append [] m h k = k

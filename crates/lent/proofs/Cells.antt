@@ -62,7 +62,7 @@ pairs-places (p ∷ d) (o ∷ u) j f e h =
     let first : f j ≡ p .0 ∷ p .1 ∷ o .0 ∷ o .1 ∷ [] = rw here at (h 0 (omega arith)) in
     rw (first, pairs-places d u (suc j) f (omega arith) (λ r b. let on : suc j + r ≡ j + suc r = omega arith in rw on (h (suc r) (omega arith))))
 
-pairs-long : (d u : State) → length u ≡ length d → length (pairCells d u) ≡ 4 * length d
+pub pairs-long : (d u : State) → length u ≡ length d → length (pairCells d u) ≡ 4 * length d
 pairs-long [] u e = refl
 pairs-long (p ∷ d) [] e = absurd (omega arith)
 pairs-long (p ∷ d) (o ∷ u) e = omega (arith, pairs-long d u (omega arith))

@@ -7,32 +7,15 @@ use Prim.Native.Nat.{ℕ, zero, suc, _≤_, _<_}
 use native.Mathlib.Omega.{arith}
 use lib.ListN.{length, getD}
 use lib.IntN.{pos}
-use Rattle.laws.specs.Z.{minZ, eqZ, eqZ→, eqZ-refl}
+use Rattle.laws.specs.Z.{minZ}
 use Rattle.laws.specs.Lists.{place, flat, from}
-use Rattle.laws.proofs.Lists.{and-l, and-r, no-true}
-use Rattle.laws.proofs.Each.{Each, each-flat}
+use Rattle.laws.proofs.Lists.{no-true}
+use Rattle.laws.proofs.Each.{Each, each-below, each-flat}
 use Rattle.meaning.specs.Plan.{Campaign, allows}
 use Rattle.meaning.specs.Diagram.{State, eqState, child, reaches, mayKeepAll, Node, firstAppearance, arrival, arrivals, has, arrive, distinct, placed, ranked, states}
-use Rattle.meaning.proofs.Sound.{noNode}
+use Rattle.meaning.proofs.Sound.{eqState→, eqState-refl, noNode}
 
--- ---- equal pairs make equal states, and back (the same laws in the meaning are not pub)
-pub eqState→ : (a b : State) → eqState a b ≡ true → a ≡ b
-eqState→ [] [] e = refl
-eqState→ [] (y ∷ b) e = absurd (true≢false (sym e))
-eqState→ (x ∷ a) [] e = absurd (true≢false (sym e))
-eqState→ (x ∷ a) (y ∷ b) e =
-    let low = eqZ (x .0) (y .0) in
-    let high = eqZ (x .1) (y .1) in
-    let pair = and-l (low && high) (eqState a b) e in
-    let lo = eqZ→ (x .0) (y .0) (and-l low high pair) in
-    let hi = eqZ→ (x .1) (y .1) (and-r low high pair) in
-    let rest = eqState→ a b (and-r (low && high) (eqState a b) e) in
-    λ d. (lo d, hi d) ∷ rest d
-
-eqState-refl : (a : State) → eqState a a ≡ true
-eqState-refl [] = refl
-eqState-refl (x ∷ a) = rw (eqZ-refl (x .0), eqZ-refl (x .1)) (eqState-refl a)
-
+-- ---- equal states, and back
 pub eqState-yes : (a b : State) → a ≡ b → eqState a b ≡ true
 eqState-yes a b e = rw e (eqState-refl b)
 
@@ -115,11 +98,6 @@ differ-arrive c (n ∷ l) h = go (has (c .0) n) refl (differ-arrive c l (h .1))
     go : (b : Bool) → has (c .0) n ≡ b → AllDiffer (arrive c l) → AllDiffer (cond b ((n .0, minZ (n .1) (c .1)) ∷ l) (n ∷ arrive c l))
     go true e r = h
     go false e r = (differs-arrive (n .0) c l (eqState-swap (c .0) (n .0) e) (h .0), r)
-
-each-below : {A : Type 0} (P : A → Type 0) (l : List A) (k : ℕ) (d : A) → k < length l → Each P l → P (getD l k d)
-each-below P [] k d b h = absurd (omega arith)
-each-below P (x ∷ l) zero d b h = h .0
-each-below P (x ∷ l) (suc k) d b h = each-below P l k d (omega arith) (h .1)
 
 -- so a node that has a state stands at the state's place
 pub place-is : (t : State) (l : List Node) (k : ℕ) → AllDiffer l → k < length l → has t (getD l k noNode) ≡ true → place (has t) l ≡ k

@@ -17,6 +17,7 @@ use Rattle.meaning.specs.Plan.{Rule, Campaign}
 use Rattle.meaning.specs.Diagram.{State, mergedState, child, starts, Arcs}
 use Rattle.meaning.specs.Filter.{Numbers, meet, over, zeros, begins, upArc, upNode, ups, downNode, downAt, nodeCount, downs, downNumbers, upNumbers}
 use Rattle.meaning.proofs.Sizes.{added, either}
+use Rattle.meaning.proofs.Restricted.{child-length}
 use Rattle.lent.specs.Led.{firstUps}
 use Rattle.lent.specs.Small.{Small, FitPair, Fit, FewBytes}
 
@@ -39,11 +40,6 @@ zero-pairs (r ∷ rs) = ((record { size = omega arith }, record { size = omega a
 start-pairs : (rs : List Rule) → Each (λ r. r .start ≡ pos 0) rs → Each (FitPair 0) (starts rs)
 start-pairs [] h = tt
 start-pairs (r ∷ rs) h = let z : Within 0 (r .start) = rw (h .0) (record { size = omega arith }) in ((z, z), start-pairs rs (h .1))
-
-pub child-long : (rs : List Rule) (i v : ℕ) (t : State) → length t ≡ length rs → length (child rs i v t) ≡ length rs
-child-long [] i v t e = refl
-child-long (r ∷ rs) i v [] e = absurd (omega arith)
-child-long (r ∷ rs) i v (p ∷ t) e = ap suc (child-long rs i v t (omega arith))
 
 child-pairs : (h k : ℕ) → h < k → (rs : List Rule) (i v : ℕ) → v < 8 → (t : State) → Each (FitPair h) t → Each (λ r. (i v : ℕ) → v < 8 → Within 7000 (r .share i v)) rs
     → Each (FitPair k) (child rs i v t)
@@ -74,7 +70,7 @@ module _ (q : Campaign) (s : Small q) where
     pub over-fit : (i v : ℕ) → v < 8 → (d : Numbers) → Fit q h d → Fit q k (over q i v d)
     over-fit i v b none f = tt
     over-fit i v b (some a) f = record {
-      long = child-long (q .rules) i v (a .0) (f .long);
+      long = child-length (q .rules) i v (a .0) (f .long);
       pairs = child-pairs h k l (q .rules) i v b (a .0) (f .pairs) (s .shares);
       cost = added (omega arith) (f .cost) (s .prices i v b);
     }

@@ -1,25 +1,21 @@
 -- Is the campaign of a problem in range small enough for lanes? It is.
 use mathlib.Core.Path.{_≡_, refl}
-use mathlib.Core.List.{List}
 use mathlib.Core.Bool.{true, _&&_}
-use Prim.Native.Nat.{ℕ, _*_, _<_}
+use Prim.Native.Nat.{ℕ, _<_}
 use native.Mathlib.Omega.{arith}
 use lib.ListN.{length, length-map}
 use lib.IntN.{ℤ, pos}
-use Rattle.laws.specs.Z.{zarith, parts, Within, mul-within}
-use Rattle.laws.proofs.Each.{Each, each-at, each-map}
+use Rattle.laws.specs.Z.{zarith, parts, Within}
+use Rattle.laws.proofs.Each.{each-map}
 use Rattle.meaning.specs.Plan.{bit}
-use Rattle.meaning.specs.Problem.{Terms, among, sums, Problem, weighed, shareOf, ruleOf, campaign, version1, inRange}
+use Rattle.meaning.specs.Problem.{Terms, among, sums, Problem, shareOf, ruleOf, campaign, version1, inRange}
 use Rattle.meaning.proofs.Sizes.{either}
+use Rattle.meaning.proofs.Ranges.{weighed-within}
 use Rattle.meaning.proofs.Faultless.{RightTerms, RightLead, RightFields, in-range}
 use Rattle.lent.specs.Small.{Small}
 
--- a number of a slot times a step
-weighed-within : (m : ℕ) (c : List ℤ) → Each (Within m) c → (i v : ℕ) → v < 8 → Within (m * 7) (weighed c i v)
-weighed-within m c h i v l = mul-within (each-at (Within m) c i (pos 0) (record { size = omega arith }) h) (omega arith)
-
 module _ (n : ℕ) where
-  terms-share : (t : Terms) → RightTerms version1 n t → (i v : ℕ) → v < 8 → Within 7000 (shareOf t i v)
+  pub terms-share : (t : Terms) → RightTerms version1 n t → (i v : ℕ) → v < 8 → Within 7000 (shareOf t i v)
   terms-share (among s t) h i v l = either (bit s v && bit t i) (record { size = omega arith }) (record { size = omega arith })
   terms-share (sums c) h i v l = weighed-within 1000 c h i v l
 

@@ -14,13 +14,14 @@ use Rattle.meaning.specs.Plan.{Rule, Campaign}
 use Rattle.meaning.specs.Diagram.{State, child, mayKeepAll}
 use Rattle.meaning.specs.Filter.{Numbers, meet, over, upArc, upNode, eachStep, Test, onPath, within, stays, testArc}
 use Rattle.meaning.proofs.Sizes.{larger}
+use Rattle.meaning.proofs.Restricted.{child-length}
 use Rattle.lent.specs.Scatter.{raised}
 use Rattle.lent.specs.Lanes.{sums, atMost}
 use Rattle.lent.specs.Passes.{Bytes, far, nowhere, arcLanes, raise, raiseNode, testByte, testNode}
 use Rattle.lent.specs.Vec.{vec, arcVec, slotVec, rowVec, limitVec}
 use Rattle.lent.specs.Small.{Small, CeilingFits, FitSome, Fit}
 use Rattle.lent.proofs.Scatter.{meet-none, raised-up}
-use Rattle.lent.proofs.Fit.{child-long, over-fit, meet-fit, up-arc-fit}
+use Rattle.lent.proofs.Fit.{over-fit, meet-fit, up-arc-fit}
 use Rattle.lent.proofs.Lanes.{block-cost, length-zipped, zipped-at, zipped-block, each-sums, atMost-no, atMost-size, atMost-block, neg-sum, neg-le}
 use Rattle.lent.proofs.Vec.{length-vec, length-limit, length-lows, length-highs, some-within, row-at, slot-at, far-some, sums-over, leasts-meet}
 
@@ -112,7 +113,7 @@ module _ (q : Campaign) (s : Small q) (i h k : ℕ) (few : h + 1 + k ≤ 24) whe
       let ubs = map (λ (r : Rule). r .ub) (q .rules) in
       let lbs = map (λ (r : Rule). r .lb) (q .rules) in
       let few = s .rules in
-      let long : length t ≡ length (q .rules) = child-long (q .rules) i v (u .0) (g .long) in
+      let long : length t ≡ length (q .rules) = child-length (q .rules) i v (u .0) (g .long) in
       let lows : length low ≡ length (q .rules) = length-lows (a .0) ∙ f .long in
       let highs : length high ≡ length (q .rules) = length-highs (a .0) ∙ f .long in
       let up-lows : length low ≡ length up-low = lows ∙ sym (length-lows t ∙ long) in

@@ -190,7 +190,7 @@ parents-padded e q i us [] (bs ∷ l) h =
 parents-padded e q i us (d ∷ ds) (bs ∷ l) h = ap (λ (r : List (List ℕ)). eachStep (testArc e q i us d) 0 bs ∷ r) (parents-padded e q i us ds l (h .1))
 
 -- ---- the lanes of a node make 4m + 3 cells
-node-long : (m : ℕ) (d u : List ℤ) → length (nodeLanes m d u) ≡ 4 * m + 3
+pub node-long : (m : ℕ) (d u : List ℤ) → length (nodeLanes m d u) ≡ 4 * m + 3
 node-long m d u = go (far d || far u)
   where
     lane : ℕ → List ℤ

@@ -96,7 +96,7 @@ pub record LeavesRoom (f : Format) : Type 0 where
   pub sums : f .sumLead + mostSlots * (f .coefficient * (stepCount - 1)) ≤ limit
 
 -- "weight times step", "coefficient times v"
-weighed-within : (m : ℕ) (c : List ℤ) → Each (Within m) c → (i v : ℕ) → v < stepCount → Within (m * (stepCount - 1)) (weighed c i v)
+pub weighed-within : (m : ℕ) (c : List ℤ) → Each (Within m) c → (i v : ℕ) → v < stepCount → Within (m * (stepCount - 1)) (weighed c i v)
 weighed-within m c h i v l = mul-within (each-at (Within m) c i (pos 0) (record { size = omega arith }) h) (omega arith)
 
 module _ (f : Format) (l : LeavesRoom f) (n : ℕ) (few : n ≤ mostSlots) where

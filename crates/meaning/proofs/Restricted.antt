@@ -23,7 +23,7 @@ use Rattle.meaning.proofs.Walks.{next, fewer-walks}
 use Rattle.meaning.proofs.Layers.{child-found, arc-at}
 use Rattle.meaning.proofs.Drops.{drops-fewer}
 
-child-length : (rs : List Rule) (i v : ℕ) (t : State) → length t ≡ length rs → length (child rs i v t) ≡ length rs
+pub child-length : (rs : List Rule) (i v : ℕ) (t : State) → length t ≡ length rs → length (child rs i v t) ≡ length rs
 child-length [] i v t e = refl
 child-length (r ∷ rs) i v [] e = absurd (omega arith)
 child-length (r ∷ rs) i v (x ∷ t) e = ap suc (child-length rs i v t (omega arith))

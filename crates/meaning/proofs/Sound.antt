@@ -214,7 +214,7 @@ node-wider w ts j hw h = go (leb (length ts) w) refl
         )
 
 -- ---- the place of a state among the states of a layer
-eqState→ : (a b : State) → eqState a b ≡ true → a ≡ b
+pub eqState→ : (a b : State) → eqState a b ≡ true → a ≡ b
 eqState→ [] [] e = refl
 eqState→ [] (y ∷ b) e = absurd (true≢false (sym e))
 eqState→ (x ∷ a) [] e = absurd (true≢false (sym e))
@@ -226,7 +226,7 @@ eqState→ (x ∷ a) (y ∷ b) e =
     let rest = eqState→ a b (and-r pair (eqState a b) e) in
     λ d. (lo d, hi d) ∷ rest d
 
-eqState-refl : (a : State) → eqState a a ≡ true
+pub eqState-refl : (a : State) → eqState a a ≡ true
 eqState-refl [] = refl
 eqState-refl (x ∷ a) = rw (eqZ-refl (x .0), eqZ-refl (x .1)) (eqState-refl a)
 

@@ -6,7 +6,7 @@ use Prim.Native.Nat.{ℕ, suc, _+_, _*_, _≤_, _<_}
 use native.Mathlib.Nat.{suc-add}
 use native.Mathlib.Omega.{arith}
 use lib.Dec.{T, leb}
-use lib.ListN.{length, getD, set, drop, replicate, length-map, length-append, length-replicate, length-drop, drop-of-length-le}
+use lib.ListN.{length, getD, set, drop, replicate, length-map, length-append, length-drop, drop-of-length-le}
 use lib.Seq.{set-append-left, set-at}
 use lib.IntN.{ℤ, pos, negℤ, _-ℤ_}
 use mir.Syntax.{w32}
@@ -165,17 +165,7 @@ module _ (m n : ℕ) (d u : List ℤ) {c : List ℤ} (long : n ≡ 4 * m + 3) (z
       either true = refl
       either false = refl
 
--- ---- how many cells a node has, and how great the numbers are that are read from them
-pub length-node : (m : ℕ) (d u : List ℤ) → length (nodeLanes m d u) ≡ 4 * m + 3
-length-node m d u = go (far d || far u)
-  where
-    rules : List ℤ
-    rules = pos 1 ∷ gather (ruleOf d u) (from 0 m) ++ (getD d 16 (pos 0) ∷ getD u 16 (pos 0) ∷ [])
-
-    go : (t : Bool) → length (cond t (replicate (4 * m + 3) (pos 0)) rules) ≡ 4 * m + 3
-    go true = length-replicate (4 * m + 3) (pos 0)
-    go false = length-append (pos 1 ∷ gather (ruleOf d u) (from 0 m)) (getD d 16 (pos 0) ∷ getD u 16 (pos 0) ∷ []) ∙ omega (arith, rules-long d u m)
-
+-- ---- how great the numbers are that are read from a node's cells
 pub each-down : (m : ℕ) (c : List ℤ) → Each (Within 4000000) c → Each (Within 4000000) (downLanes m c)
 each-down m c h = go (eqZ (getD c 0 (pos 0)) (pos 0))
   where

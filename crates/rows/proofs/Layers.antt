@@ -13,7 +13,7 @@ use Rattle.laws.proofs.Each.{Each}
 use Rattle.lent.specs.Lanes.{lanesAt}
 use Rattle.lent.specs.Passes.{nodeLanes, downLanes, downCells, upCells}
 use Rattle.rows.proofs.Laid.{part-is, place-in, parted-next, put, put-pastes, pasted-rest, pasted-long, pasted-on, whole, each-rest}
-use Rattle.rows.proofs.Cells.{length-node}
+use Rattle.lent.proofs.Whole.{node-long}
 
 from-next : (w j : ℕ) → j < w → from j (w - j) ≡ j ∷ from (j + 1) (w - (j + 1))
 from-next w j h =
@@ -37,7 +37,7 @@ module _ {m w j : ℕ} {here c : List ℤ} (s : Downs m w here c j) where
 
   pub downs-more : {x y : List ℤ} → j < w → x ≡ lanesAt here (j * 17) → y ≡ nodeLanes m x (replicate 17 (pos 0)) → Downs m w here (put c (j * (4 * m + 3)) (4 * m + 3) y) (j + 1)
   downs-more {x} {y} h ex ey =
-      let long : length y ≡ 4 * m + 3 = ap length ey ∙ length-node m x (replicate 17 (pos 0)) in
+      let long : length y ≡ 4 * m + 3 = ap length ey ∙ node-long m x (replicate 17 (pos 0)) in
       let room : w * (4 * m + 3) ≤ length c = omega (arith, s .long) in
       let f = flat (map (downCells m here) (from (j + 1) (w - (j + 1)))) in
       rw (put-pastes c y (j * (4 * m + 3)) (4 * m + 3) long) (record {
@@ -69,7 +69,7 @@ module _ {m w j : ℕ} {here c₀ c : List ℤ} (s : Ups m w here c₀ c j) wher
       → Ups m w here c₀ (put c (j * (4 * m + 3)) (4 * m + 3) y) (j + 1)
   ups-more {d} {x} {y} h ed ex ey =
       let at = j * (4 * m + 3) in
-      let long : length y ≡ 4 * m + 3 = ap length ey ∙ length-node m d x in
+      let long : length y ≡ 4 * m + 3 = ap length ey ∙ node-long m d x in
       let room : w * (4 * m + 3) ≤ length c = omega (arith, s .long) in
       let one : j + 1 ≡ suc j = add-one j in
       let made : y ≡ nodeLanes m (downLanes m (take (4 * m + 3) (drop at c))) (lanesAt here (j * 17)) = ey ∙ rw (ex, ed, part-is at (4 * m + 3) c) refl in

@@ -13,7 +13,7 @@ use Rattle.laws.specs.Lists.{flat, parted, same}
 use Rattle.laws.proofs.Each.{Each}
 use Rattle.lent.specs.Passes.{nowhere, raiseNode, raiseLayer, testNode, testLayer, nodeLanes, downLanes, layerCells}
 use Rattle.rows.proofs.Laid.{part-is, part-long, place-in, parted-next, put, put-pastes, pasted-first, pasted-rest, pasted-long, pasted-on, whole, rest-next, rest-last, first-next, each-rest}
-use Rattle.rows.proofs.Cells.{length-node}
+use Rattle.lent.proofs.Whole.{node-long}
 use Rattle.rows.proofs.Up.{same-append, length-test}
 
 not-and : (a b : Bool) → (not a || not b) ≡ not (a && b)
@@ -85,7 +85,7 @@ module _ {m w j : ℕ} {row next limit : List ℤ} {arcs₀ arcs : List ℕ} {ce
       let own : List ℤ = take (4 * m + 3) (drop (j * (4 * m + 3)) cells) in
       let part-arcs : take (j * 8 + 8 - j * 8) (drop (j * 8) arcs) ≡ part = part-is (j * 8) 8 arcs in
       let lb : length bs ≡ 8 = ap length eb ∙ length-test row next d limit 0 (take (j * 8 + 8 - j * 8) (drop (j * 8) arcs)) ∙ part-long (j * 8) 8 arcs (omega (arith, s .long-arcs)) in
-      let ly : length y ≡ 4 * m + 3 = ap length ey ∙ length-node m d up in
+      let ly : length y ≡ 4 * m + 3 = ap length ey ∙ node-long m d up in
       let ra : w * 8 ≤ length arcs = omega (arith, s .long-arcs) in
       let rc : w * (4 * m + 3) ≤ length cells = omega (arith, s .long-cells) in
       let rh : w * 17 ≤ length here = omega (arith, s .long-here, s .few) in

@@ -10,19 +10,20 @@ use borrow.Author.Tests.{eqb-true, eqb-false}
 use lib.ListN.{length, getD, take, drop, length-map, length-take}
 use lib.Seq.{getD-take, getD-drop}
 use lib.IntN.{ℤ, pos, negℤ, _+ℤ_, _*ℤ_}
-use Rattle.laws.specs.Z.{zarith, sum, Within, mul-within}
+use Rattle.laws.specs.Z.{zarith, sum, Within}
 use Rattle.laws.specs.Lists.{gather, from, padded}
 use Rattle.laws.proofs.Lists.{length-from}
 use Rattle.laws.proofs.Each.{Each, each-of, each-at, each-from, each-map}
 use Rattle.meaning.specs.Plan.{Rule, bit}
-use Rattle.meaning.specs.Problem.{Terms, among, sums, version1, weighed, shareOf, ruleOf}
-use Rattle.meaning.proofs.Sizes.{either}
-use Rattle.meaning.proofs.Faultless.{RightTerms, RightFields}
+use Rattle.meaning.specs.Problem.{version1, shareOf, ruleOf}
+use Rattle.meaning.proofs.Ranges.{weighed-within}
+use Rattle.meaning.proofs.Faultless.{RightFields}
 use Rattle.problem.specs.declared.Problem.{Problem}
 use Rattle.problem.specs.Held.{termsOf, saidAt, said, campaignOf}
 use Rattle.problem.proofs.Faultless.{Right}
 use Rattle.lent.specs.Vec.{arcVec, slotVec}
 use Rattle.lent.specs.Small.{Small}
+use Rattle.lent.proofs.Small.{terms-share}
 use Rattle.slot.specs.Rows.{coefPart, valuePart, coefParts, valueParts, laneOf, lanesOf, stepLanes, slotLanes, CoefsRight}
 
 -- ---- lists
@@ -131,13 +132,6 @@ module _ (p : Problem) (h : Right version1 p) (i : ℕ) (b : i < p .n) where
   said-row = gather-same (stepLanes (coefParts (p .m) i (p .kinds) (p .coefs)) (valueParts (p .m) i (p .kinds) (p .values) (p .slots)) weight) (arcVec (campaignOf p) i) said-step (from 0 8)
 
 -- ---- small enough
-weighed-within : (m : ℕ) (c : List ℤ) → Each (Within m) c → (i v : ℕ) → v < 8 → Within (m * 7) (weighed c i v)
-weighed-within m c h i v l = mul-within (each-at (Within m) c i (pos 0) (record { size = omega arith }) h) (omega arith)
-
-terms-share : (n : ℕ) (t : Terms) → RightTerms version1 n t → (i v : ℕ) → v < 8 → Within 7000 (shareOf t i v)
-terms-share n (among s t) h i v l = either (bit s v && bit t i) (record { size = omega arith }) (record { size = omega arith })
-terms-share n (sums c) h i v l = weighed-within 1000 c h i v l
-
 pub rules-long : (p : Problem) → length (campaignOf p .rules) ≡ p .m
 rules-long p = length-map (map (saidAt p) (from 0 (p .m))) ruleOf ∙ length-map (from 0 (p .m)) (saidAt p) ∙ length-from 0 (p .m)
 
