@@ -8,7 +8,7 @@ use lib.ListN.{length, getD, replicate, length-append, List·getD-append}
 use lib.Seq.{getD-append-add, getD-at}
 use lib.IntN.{ℤ, pos, negℤ, _+ℤ_}
 use lib.Signed.{leZ}
-use Rattle.laws.specs.Z.{zarith, sum, neg, parts, minZ, maxZ, Within, sum-within}
+use Rattle.laws.specs.Z.{zarith, sum, neg, parts, minZ, maxZ, Within}
 use Rattle.laws.specs.Lists.{padded}
 use Rattle.laws.proofs.Lists.{and-both, and-true, and-false}
 use Rattle.laws.proofs.Filled.{length-padded, each-padded}
@@ -57,13 +57,7 @@ module _ (f : ℤ → ℤ → ℤ) where
   length-zipped (x ∷ l) [] e = absurd (omega arith)
   length-zipped (x ∷ l) (y ∷ m) e = ap suc (length-zipped l m (omega arith))
 
-  pub zipped-at : (l m : List ℤ) (r : ℕ) (d : ℤ) → length l ≡ length m → r < length l → getD (zipped f l m) r d ≡ f (getD l r d) (getD m r d)
-  zipped-at [] m r d e h = absurd (omega arith)
-  zipped-at (x ∷ l) [] r d e h = absurd (omega arith)
-  zipped-at (x ∷ l) (y ∷ m) zero d e h = refl
-  zipped-at (x ∷ l) (y ∷ m) (suc r) d e h = zipped-at l m r d (omega arith) (omega arith)
-
-  zipped-append : (l m a b : List ℤ) → length l ≡ length m → zipped f (l ++ a) (m ++ b) ≡ zipped f l m ++ zipped f a b
+  pub zipped-append : (l m a b : List ℤ) → length l ≡ length m → zipped f (l ++ a) (m ++ b) ≡ zipped f l m ++ zipped f a b
   zipped-append [] [] a b e = refl
   zipped-append [] (y ∷ m) a b e = absurd (omega arith)
   zipped-append (x ∷ l) [] a b e = absurd (omega arith)
@@ -84,11 +78,6 @@ module _ (f : ℤ → ℤ → ℤ) where
       let both : length (padded 8 z l ++ padded 8 z h) ≡ length (padded 8 y m ++ padded 8 y k) = omega (arith, length-append (padded 8 z l) (padded 8 z h), length-append (padded 8 y m) (padded 8 y k)) in
       zipped-append (padded 8 z l ++ padded 8 z h) (padded 8 y m ++ padded 8 y k) (c ∷ []) (d ∷ []) both
       ∙ rw (zipped-append (padded 8 z l) (padded 8 y m) (padded 8 z h) (padded 8 y k) low, zipped-padded 8 z y l m e, zipped-padded 8 z y h k g)
-
-pub each-sums : (m n : ℕ) (l k : List ℤ) → Each (Within m) l → Each (Within n) k → Each (Within (m + n)) (sums l k)
-each-sums m n [] k g h = tt
-each-sums m n (x ∷ l) [] g h = tt
-each-sums m n (x ∷ l) (y ∷ k) g h = (sum-within (g .0) (h .0), each-sums m n l k (g .1) (h .1))
 
 -- ---- no lane above its limit
 -- one is

@@ -25,3 +25,7 @@ pub mod Pass
 pub mod Whole
 -- demand 2, over files
 pub mod Demand
+-- building's states are the pairs of the down numbers
+pub mod Stated
+-- the form of the arcs, as they are built and whatever falls
+pub mod Shape

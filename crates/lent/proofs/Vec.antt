@@ -3,10 +3,10 @@ use mathlib.Core.Path.{_≡_, refl, sym, _∙_, ap}
 use mathlib.Core.List.{List, [], _∷_, _++_, map, append-assoc}
 use mathlib.Core.Bool.{Bool, true, false, cond}
 use mathlib.Core.Option.{none, some}
-use Prim.Native.Nat.{ℕ, zero, suc, _+_, _*_, _≤_, _<_}
+use Prim.Native.Nat.{ℕ, zero, suc, _+_, _*_, _-_, _≤_, _<_}
 use native.Mathlib.Omega.{arith}
 use native.Mathlib.Nat.{zero-add}
-use lib.ListN.{length, getD, set, take, drop, replicate, length-map, length-set}
+use lib.ListN.{length, getD, set, take, drop, replicate, length-map, length-set, length-replicate, replicate-append-replicate}
 use lib.Seq.{paste, take-all, take-at, drop-at, take-append-add, drop-append-add}
 use lib.IntN.{ℤ, pos, negℤ, _+ℤ_}
 use lib.Signed.{leZ}
@@ -17,7 +17,7 @@ use Rattle.laws.proofs.Filled.{length-padded, length-rows, each-padded}
 use Rattle.laws.proofs.Each.{Each, each-more, each-map, each-gather, each-from}
 use Rattle.meaning.specs.Plan.{Rule, Campaign}
 use Rattle.meaning.specs.Diagram.{State, mergedState, child}
-use Rattle.meaning.specs.Filter.{Numbers, meet, over, Test, onPath, within}
+use Rattle.meaning.specs.Filter.{Numbers, meet, over}
 use Rattle.meaning.proofs.Sizes.{larger}
 use Rattle.lent.specs.Lanes.{lanesAt, sums, leasts}
 use Rattle.lent.specs.Passes.{Slot, Row, far}
@@ -33,9 +33,8 @@ length-vec (some a) = length-block (pos 0) (map (λ p. p .0) (a .0)) (map negℤ
 length-arc : (q : Campaign) (i v : ℕ) → length (arcVec q i v) ≡ 17
 length-arc q i v = let shares = map (λ (r : Rule). r .share i v) (q .rules) in length-block (pos 0) shares (map negℤ shares) (q .price i v)
 
-pub length-limit : (e : Test) (q : Campaign) → length (limitVec e q) ≡ 17
-length-limit onPath q = refl
-length-limit (within c) q = length-block (pos 2000000) (map (λ r. r .ub) (q .rules)) (map negℤ (map (λ r. r .lb) (q .rules))) c
+pub length-limit : (c : ℤ) (q : Campaign) → length (limitVec c q) ≡ 17
+length-limit c q = length-block (pos 2000000) (map (λ r. r .ub) (q .rules)) (map negℤ (map (λ r. r .lb) (q .rules))) c
 
 -- ---- the lanes' sizes
 within-zero : {m : ℕ} → Within m (pos 0)
@@ -64,6 +63,13 @@ module _ (q : Campaign) (s : Small q) where
       let shares = each-map (λ (r : Rule). (i v : ℕ) → v < 8 → Within 7000 (r .share i v)) (Within 4000000) (λ r. r .share i v) (λ r k. widen tt (k i v l)) (q .rules) (s .shares) in
       let all = map (λ (r : Rule). r .share i v) (q .rules) in
       each-block (Within 4000000) (pos 0) all (map negℤ all) (q .price i v) within-zero shares (each-neg 4000000 all shares) (widen tt (s .prices i v l))
+
+  pub limit-within : {c : ℤ} → Within 2000000 c → Each (Within 4000000) (limitVec c q)
+  limit-within {c} h =
+      let highs = each-map (λ (r : Rule). Within 200000 (r .lb) × Within 200000 (r .ub)) (Within 4000000) (λ r. r .ub) (λ r k. widen tt (k .1)) (q .rules) (s .bounds) in
+      let lows = each-map (λ (r : Rule). Within 200000 (r .lb) × Within 200000 (r .ub)) (Within 4000000) (λ r. r .lb) (λ r k. widen tt (k .0)) (q .rules) (s .bounds) in
+      let lbs = map (λ (r : Rule). r .lb) (q .rules) in
+      each-block (Within 4000000) (pos 2000000) (map (λ r. r .ub) (q .rules)) (map negℤ lbs) c (record { size = omega arith }) highs (each-neg 4000000 lbs lows) (widen tt h)
 
 -- ---- rows of 17 lanes
 module _ {A : Type 0} where
@@ -108,6 +114,33 @@ length-row ds = length-rows vec 17 length-vec (padded 16 none ds) ∙ ap (λ (n 
 
 pub row-vec : (q : Campaign) (h : ℕ) → h ≤ 24 → (ds : List Numbers) → Each (Fit q h) ds → Row (rowVec ds)
 row-vec q h few ds f = record { long = length-row ds; inside = each-gather (Fit q h) (Within 4000000) vec (vec-within q h few) (padded 16 none ds) (each-padded (Fit q h) 16 none ds tt f) }
+
+-- ---- a row by its own nodes: behind them every lane is out of reach
+no-nodes : (n : ℕ) → gather vec (padded n none []) ≡ replicate (n * 17) (pos 4000000)
+no-nodes zero = refl
+no-nodes (suc n) = let o : suc n * 17 ≡ 17 + n * 17 = omega arith in rw (o, no-nodes n) (replicate-append-replicate 17 (n * 17) (pos 4000000))
+
+own-from : (n : ℕ) (us : List Numbers) → length us ≤ n → gather vec (padded n none us) ≡ gather vec us ++ replicate ((n - length us) * 17) (pos 4000000)
+own-from n [] h = let o : n - 0 ≡ n = omega arith in rw o (no-nodes n)
+own-from zero (u ∷ us) h = absurd (omega arith)
+own-from (suc n) (u ∷ us) h =
+    let o : suc n - suc (length us) ≡ n - length us = omega arith in
+    rw (o, own-from n us (omega arith)) (sym (append-assoc (vec u) (gather vec us) (replicate ((n - length us) * 17) (pos 4000000))))
+
+pub row-own : (us : List Numbers) → length us ≤ 16 → rowVec us ≡ gather vec us ++ replicate ((16 - length us) * 17) (pos 4000000)
+row-own us h = own-from 16 us h
+
+pub row-behind : (w : ℕ) → w ≤ 16 → (us : List Numbers) → length us ≤ w → drop (w * 17) (rowVec us) ≡ replicate ((16 - w) * 17) (pos 4000000)
+row-behind w few us h =
+    let k = (w - length us) * 17 in
+    let own : List ℤ = gather vec us in
+    let rest : List ℤ = replicate ((16 - w) * 17) (pos 4000000) in
+    let place : w * 17 ≡ length own + k = omega (arith, length-rows vec 17 length-vec us) in
+    let both : (16 - length us) * 17 ≡ k + (16 - w) * 17 = omega arith in
+    let split : replicate ((16 - length us) * 17) (pos 4000000) ≡ replicate k (pos 4000000) ++ rest = rw both (sym (replicate-append-replicate k ((16 - w) * 17) (pos 4000000))) in
+    (λ j. drop (place j) ((row-own us (omega arith) ∙ ap (λ (l : List ℤ). own ++ l) split) j))
+    ∙ drop-append-add own (replicate k (pos 4000000) ++ rest) k
+    ∙ drop-at (replicate k (pos 4000000)) rest k (length-replicate k (pos 4000000))
 
 module _ (q : Campaign) (s : Small q) where
   pub slot-at : (i v : ℕ) → v < 8 → lanesAt (slotVec q i) (v * 17) ≡ arcVec q i v

@@ -1,6 +1,6 @@
 -- What are the rows, cells and bytes of a whole diagram, layer by layer?
 use mathlib.Core.Path.{_≡_, refl, sym, _∙_, ap}
-use mathlib.Core.List.{List, [], _∷_, _++_, map, tail, append-assoc}
+use mathlib.Core.List.{List, [], _∷_, _++_, map, tail}
 use mathlib.Core.Bool.{Bool, true, false, _||_, cond}
 use mathlib.Core.Option.{none}
 use Prim.Native.Nat.{ℕ, zero, suc, _+_, _*_, _-_, _≤_, _<_}
@@ -11,7 +11,7 @@ use native.Mathlib.Decide.{decLt}
 use borrow.Author.Tests.{ne-eqb, leb-true}
 use lib.Dec.{leb}
 use lib.ListN.{length, getD, take, drop, replicate, length-map, length-append, length-replicate, length-drop, List·getD-eq-default, drop-of-length-le}
-use lib.Seq.{length-take-le, drop-cons, getD-drop, drop-append-add, take-at, drop-at}
+use lib.Seq.{length-take-le, drop-cons, getD-drop, take-at, drop-at}
 use lib.IntN.{ℤ, pos, negℤ}
 use Rattle.laws.specs.Z.{Within}
 use Rattle.laws.specs.Lists.{every, flat, gather, from, padded, parted}
@@ -25,15 +25,15 @@ use Rattle.meaning.specs.Filter.{Numbers, zeros, begins, upNode, ups, downNode,
 use Rattle.meaning.specs.Buffers.{nodeNeed, nodeCells, layerCells as cellsOf, allCells, ofForm}
 use Rattle.lent.specs.Wide.{laid}
 use Rattle.lent.specs.Lanes.{lanesAt}
-use Rattle.lent.specs.Passes.{Row, Bytes, far, bringLayer, raiseLayer, nodeLanes, downCells, upCells, testLayer, layerCells}
-use Rattle.lent.specs.Vec.{vec, slotVec, rowVec, limitVec}
-use Rattle.lent.specs.Small.{Small, CeilingFits, Fit, FewBytes}
+use Rattle.lent.specs.Passes.{Row, Bytes, HalfNode, HalfCells, far, bringLayer, raiseLayer, nodeLanes, roomLanes, downCells, upCells, testLayer, layerCells}
+use Rattle.lent.specs.Vec.{vec, slotVec, rowVec, testOf, limitVec}
+use Rattle.lent.specs.Small.{Small, Fit, FewBytes}
 use Rattle.lent.proofs.Places.{padded-same, made-at, no-number-tested, nextDowns, cells-none}
 use Rattle.lent.proofs.Fit.{zeros-fit, downs-fit, ups-fit}
-use Rattle.lent.proofs.Vec.{row-at, row-vec}
+use Rattle.lent.proofs.Vec.{row-at, row-vec, row-own, row-behind}
 use Rattle.lent.proofs.Downs.{layer-brings}
 use Rattle.lent.proofs.Cells.{zeros-vec, node-cells, cells-within}
-use Rattle.lent.proofs.Pass.{layer-raises, layer-tests, layer-cells, row-cells}
+use Rattle.lent.proofs.Pass.{reads-down, layer-raises, layer-tests, layer-cells, row-cells}
 
 -- ---- lists
 module _ {A B : Type 0} where
@@ -100,7 +100,7 @@ module _ (q : Campaign) where
   pub down-first : (a : Arcs) → downsAt q a 0 ≡ begins q ∷ []
   down-first a = downs-first 0 (begins q ∷ []) a
 
-  down-next : (a : Arcs) (j : ℕ) → j < length a → downsAt q a (suc j) ≡ nextDowns q j (downsAt q a j) (getD a j []) (drop (suc j) a)
+  pub down-next : (a : Arcs) (j : ℕ) → j < length a → downsAt q a (suc j) ≡ nextDowns q j (downsAt q a j) (getD a j []) (drop (suc j) a)
   down-next a j h = rw (zero-add j) at (downs-next 0 (begins q ∷ []) a j h)
 
   up-next : (a : Arcs) (j : ℕ) → j < length a → upsAt q a j ≡ map (upNode q j (upsAt q a (suc j)) 0) (getD a j [])
@@ -153,15 +153,6 @@ module _ (q : Campaign) (i : ℕ) where
           | no k ↦ own 16 j (omega arith) ∙ sym (own c j (omega arith))
         ]
       ]
-
--- a layer's row by its own nodes: behind them it is as a row without nodes
-row-own : (n : ℕ) (us : List Numbers) → length us ≤ n → gather vec (padded n none us) ≡ gather vec us ++ drop (length us * 17) (gather vec (padded n none []))
-row-own n [] h = refl
-row-own zero (u ∷ us) h = absurd (omega arith)
-row-own (suc n) (u ∷ us) h =
-    let place : suc (length us) * 17 ≡ length (vec none) + length us * 17 = omega arith in
-    rw (place, drop-append-add (vec none) (gather vec (padded n none [])) (length us * 17), row-own n us (omega arith))
-    (sym (append-assoc (vec u) (gather vec us) (drop (length us * 17) (gather vec (padded n none [])))))
 
 -- ---- the cells of a layer, filled up: those of its places
 cells-empty : (k : ℕ) (ds : List Numbers) → cellsOf k ds [] ≡ []
@@ -280,7 +271,7 @@ module _ (q : Campaign) (s : Small q) (w : ℕ) (a : Arcs) (f : Whole w a) where
       flat-blocks (λ (l : List Numbers). flat (padded w (replicate (nodeNeed q) (pos 0)) (map (λ d. nodeCells (nodeNeed q) d (zeros q)) l))) [] (halfBlock q w a) (downNumbers q a) 0 (suc (length a)) (omega arith)
       (λ j h. ap flat (half-from j 0 w (omega arith) (omega (arith, f .wide))))
 
-  pub half-within : (i : ℕ) → i ≤ length a → Each (Within 4000000) (halfBlock q w a i)
+  half-within : (i : ℕ) → i ≤ length a → Each (Within 4000000) (halfBlock q w a i)
   half-within i h =
       let g = downCells (length (q .rules)) (rowVec (downsAt q a i)) in
       let low = f .wide in
@@ -288,6 +279,21 @@ module _ (q : Campaign) (s : Small q) (w : ℕ) (a : Arcs) (f : Whole w a) where
       (each-gather (λ j. j < 16) (Within 4000000) g
       (λ j l. rw (half-cells i j h l) (cells-within q s i 0 (omega (arith, f .long)) (omega arith) (nodeNeed q) (getD (downsAt q a i) j none) (zeros q) (each-at (Fit q i) (downsAt q a i) j none tt (down-fits i)) (zeros-fit q)))
       (from 0 w) (each-from (λ j. j < 16) 0 w (λ j l. omega arith)))
+
+  -- the up numbers are not there yet
+  half-node : (i j : ℕ) → i ≤ length a → j < 16 → HalfNode (length (q .rules)) (halfRow q w a i j)
+  half-node i j h l =
+      let ds = downsAt q a i in
+      ap (λ (x : List ℤ). nodeLanes (length (q .rules)) x (replicate 17 (pos 0))) (row-at ds j l ∙ sym (reads-down q s i (omega (arith, f .long)) ds (down-fits i) j l))
+
+  pub half-right : (i : ℕ) → i ≤ length a → HalfCells (length (q .rules)) w (halfBlock q w a i)
+  half-right i h =
+      let wide = f .wide in
+      record {
+        long = half-long q w a i;
+        inside = half-within i h;
+        nodes = rw (half-parted q w a i) (each-map (λ j. j < 16) (HalfNode (length (q .rules))) (halfRow q w a i) (λ j l. half-node i j h l) (from 0 w) (each-from (λ j. j < 16) 0 w (λ j l. omega arith)));
+      }
 
   -- ---- the cells behind them, and the bytes that remain
   pub all-blocks : allCells (nodeNeed q) w (downNumbers q a) (upNumbers q a) ≡ gather (cellBlock q w a) (from 0 (suc (length a)))
@@ -324,17 +330,18 @@ module _ (q : Campaign) (s : Small q) (w : ℕ) (a : Arcs) (f : Whole w a) where
     own-long : length (upsAt q a i) ≡ w
     own-long = ap length (up-next q a i h) ∙ length-map layer (upNode q i next 0) ∙ f .full i h .long
 
-    pub up-turn : flat (raiseLayer (slotVec q i) (rowVec next) layer) ++ drop (w * 17) (rowVec []) ≡ rowVec (upsAt q a i)
+    pub up-turn : flat (raiseLayer (slotVec q i) (rowVec next) layer) ++ replicate ((16 - w) * 17) (pos 4000000) ≡ rowVec (upsAt q a i)
     up-turn =
         let u = upNode q i next 0 in
         let rows : flat (raiseLayer (slotVec q i) (rowVec next) layer) ≡ gather vec (upsAt q a i) = ap flat (layer-raises q s i (length a - suc i) (omega (arith, f .long)) next (up-fits (suc i)) layer short low) ∙ flat-map (λ bs. vec (u bs)) layer ∙ sym (gather-map vec u layer) ∙ ap (gather vec) (sym (up-next q a i h)) in
-        let behind : drop (w * 17) (rowVec []) ≡ drop (length (upsAt q a i) * 17) (rowVec []) = ap (λ (n : ℕ). drop (n * 17) (rowVec [])) (sym own-long) in
-        (λ j. rows j ++ behind j) ∙ sym (row-own 16 (upsAt q a i) (omega (arith, own-long, f .wide)))
+        let behind : replicate ((16 - w) * 17) (pos 4000000) ≡ replicate ((16 - length (upsAt q a i)) * 17) (pos 4000000) = ap (λ (n : ℕ). replicate ((16 - n) * 17) (pos 4000000)) (sym own-long) in
+        (λ j. rows j ++ behind j) ∙ sym (row-own (upsAt q a i) (omega (arith, own-long, f .wide)))
 
-    pub test-turn : (e : Test) → CeilingFits e → flat (testLayer (slotVec q i) (rowVec next) (length (q .rules)) (limitVec e q) layer (parted w (4 * length (q .rules) + 3) (halfBlock q w a i))) ≡ byteBlock e q w a i
-    test-turn e c =
+    pub test-turn : (free : Bool) (c : ℤ)
+        → flat (testLayer (slotVec q i) (rowVec next) layer (map (roomLanes (length (q .rules)) free (limitVec c q)) (parted w (4 * length (q .rules) + 3) (halfBlock q w a i)))) ≡ byteBlock (testOf free c) q w a i
+    test-turn free c =
         rw (half-parted q w a i)
-        (ap flat (layer-tests q s i i (length a - suc i) (omega (arith, f .long)) (downsAt q a i) next (down-fits i) (up-fits (suc i)) e c w (f .wide) layer (f .full i h .long) short low))
+        (ap flat (layer-tests q s i i (length a - suc i) (omega (arith, f .long)) (downsAt q a i) next (down-fits i) (up-fits (suc i)) free c w (f .wide) layer (f .full i h .long) short low))
 
     pub cell-turn : flat (layerCells (slotVec q i) (rowVec next) (length (q .rules)) layer (parted w (4 * length (q .rules) + 3) (halfBlock q w a i))) ≡ cellBlock q w a i
     cell-turn =
@@ -343,13 +350,43 @@ module _ (q : Campaign) (s : Small q) (w : ℕ) (a : Arcs) (f : Whole w a) where
         (ap flat (layer-cells q s i i (length a - suc i) (omega (arith, f .long)) (downsAt q a i) next (down-fits i) (up-fits (suc i)) w (f .wide) layer (f .full i h .long) short low
         ∙ ap (cellsOf (nodeNeed q) (padded w none (downsAt q a i))) own))
 
+  -- ---- no layer has more nodes than w: neither do rows, nor do bytes lead further
+  module _ (some : 1 ≤ w) where
+    nodes-few : (j : ℕ) → nodeCount (drop j a) ≤ w
+    nodes-few j = elim (decLt j (length a)) [
+      | yes h ↦ rw (drop-cons a j [] h) (omega (arith, f .full j h .long))
+      | no h ↦ rw (drop-of-length-le a {i = j} (omega arith)) some
+    ]
+
+    downs-few : (i : ℕ) → i ≤ length a → length (downsAt q a i) ≤ w
+    downs-few zero h = rw (down-first q a) some
+    downs-few (suc j) h =
+        let at : ℕ → Numbers = λ k. downAt q j k (downsAt q a j) (getD a j []) in
+        let count = nodeCount (drop (suc j) a) in
+        rw (down-next q a j h) (omega (arith, length-map (from 0 count) at, length-from 0 count, nodes-few (suc j)))
+
+    ups-few : (i : ℕ) → i ≤ length a → length (upsAt q a i) ≤ w
+    ups-few i h = elim (decLt i (length a)) [
+      | yes l ↦ omega (arith, own-long i l)
+      | no l ↦ let e : i ≡ length a = omega arith in rw (e, up-last q a) some
+    ]
+
+    pub down-behind : (i : ℕ) → i ≤ length a → drop (w * 17) (rowVec (downsAt q a i)) ≡ replicate ((16 - w) * 17) (pos 4000000)
+    down-behind i h = row-behind w (f .wide) (downsAt q a i) (downs-few i h)
+
+    pub up-behind : (i : ℕ) → i ≤ length a → drop (w * 17) (rowVec (upsAt q a i)) ≡ replicate ((16 - w) * 17) (pos 4000000)
+    up-behind i h = row-behind w (f .wide) (upsAt q a i) (ups-few i h)
+
+    pub lower : (i : ℕ) → i < length a → Each (Each (λ b. b ≤ w)) (getD a i [])
+    lower i h = each-more (Each (λ b. b ≤ nodeCount (drop (suc i) a))) (Each (λ b. b ≤ w)) (λ bs l. each-more (λ b. b ≤ nodeCount (drop (suc i) a)) (λ b. b ≤ w) (λ b k. omega (arith, nodes-few (suc i))) bs l) (getD a i []) (f .full i h .leads)
+
   pub last-turn : flat (upCells (length (q .rules)) (rowVec (upsAt q a (length a))) 0 (parted w (4 * length (q .rules) + 3) (halfBlock q w a (length a)))) ≡ cellBlock q w a (length a)
   last-turn =
       let n = length a in
       rw (half-parted q w a n) (ap flat (row-cells q s n (n - n) (f .long) (omega (arith, f .long)) (downsAt q a n) (upsAt q a n) (down-fits n) (up-fits n) w (f .wide)))
 
 -- ---- arcs in bytes: n layers of w nodes of 8 bytes
-parted-count : {A : Type 0} (n k : ℕ) (l : List A) → length (parted n k l) ≡ n
+pub parted-count : {A : Type 0} (n k : ℕ) (l : List A) → length (parted n k l) ≡ n
 parted-count n k l = sym (length-map (parted n k l) (λ x. x)) ∙ length-fields (λ x. x) n k l
 
 parted-each : {A : Type 0} (n k : ℕ) (l : List A) → length l ≡ n * k → Each (λ x. length x ≡ k) (parted n k l)

@@ -113,7 +113,7 @@ module _ {A : Type 0} (k : ℕ) where
   flat-long [] h = sym (zero-mul k)
   flat-long (x ∷ l) h = length-append x (flat l) ∙ omega (arith, h .0, flat-long l (h .1), suc-mul (length l) k)
 
-  flat-parted : (l : List (List A)) → Each (λ x. length x ≡ k) l → parted (length l) k (flat l) ≡ l
+  pub flat-parted : (l : List (List A)) → Each (λ x. length x ≡ k) l → parted (length l) k (flat l) ≡ l
   flat-parted [] h = refl
   flat-parted (x ∷ l) h = rw (take-at x (flat l) k (h .0), drop-at x (flat l) k (h .0), flat-parted l (h .1))
 

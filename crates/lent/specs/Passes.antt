@@ -5,11 +5,11 @@ use mathlib.Core.Bool.{Bool, _||_, cond}
 use Prim.Native.Nat.{ℕ, zero, suc, _+_, _*_, _≤_}
 use lib.ListN.{length, getD, replicate}
 use lib.Seq.{paste}
-use lib.IntN.{ℤ, pos, negℤ}
+use lib.IntN.{ℤ, pos, negℤ, _-ℤ_}
 use Rattle.laws.specs.Z.{eqZ, Within}
-use Rattle.laws.specs.Lists.{gather, from, padded}
+use Rattle.laws.specs.Lists.{gather, from, padded, parted}
 use Rattle.laws.proofs.Each.{Each}
-use Rattle.lent.specs.Lanes.{lanesAt, sums, leasts, atMost}
+use Rattle.lent.specs.Lanes.{lanesAt, zipped, sums, leasts, atMost}
 
 -- ---- the forms: a slot's row has 17 lanes for each of 8 steps, a layer's row 17 for each of 16 nodes; a byte leads to one of 16 places
 pub record Slot (row : List ℤ) : Type 0 where
@@ -19,6 +19,11 @@ pub record Slot (row : List ℤ) : Type 0 where
 pub record Row (row : List ℤ) : Type 0 where
   pub long : length row ≡ 272
   pub inside : Each (Within 4000000) row
+
+-- a row that numbers are still brought to: sums of two, none of them tested yet
+pub record Spare (row : List ℤ) : Type 0 where
+  pub long : length row ≡ 272
+  pub inside : Each (Within 8000000) row
 
 abbrev pub Bytes : List ℕ → Type 0
 Bytes bs = Each (λ b. b ≤ 16) bs
@@ -50,12 +55,12 @@ bringLayer row here j (bs ∷ l) next =
 -- ---- up
 -- what an arc with step v brings up from place k of the next layer
 abbrev pub arcLanes : List ℤ → List ℤ → ℕ → ℕ → List ℤ
-arcLanes row next v k = let y = lanesAt next (k * 17) in cond (far y) nowhere (sums y (lanesAt row (v * 17)))
+arcLanes row next v k = sums (lanesAt next (k * 17)) (lanesAt row (v * 17))
 
--- an arc counts
+-- an arc counts if its child has numbers
 abbrev pub raise : List ℤ → List ℤ → ℕ → ℕ → List ℤ → List ℤ
 raise row next v zero up = up
-raise row next v (suc k) up = leasts up (arcLanes row next v k)
+raise row next v (suc k) up = cond (far (lanesAt next (k * 17))) up (leasts up (arcLanes row next v k))
 
 -- the arcs of a node, from step v on
 abbrev pub raiseNode : List ℤ → List ℤ → ℕ → List ℕ → List ℤ → List ℤ
@@ -66,15 +71,15 @@ raiseNode row next v (b ∷ bs) up = raiseNode row next (suc v) bs (raise row ne
 abbrev pub raiseLayer : List ℤ → List ℤ → List (List ℕ) → List (List ℤ)
 raiseLayer row next l = map (λ bs. raiseNode row next 0 bs nowhere) l
 
--- the byte that remains: the sum of all lanes down, over the arc and up is within the limit
-abbrev pub testByte : List ℤ → List ℤ → List ℤ → List ℤ → ℕ → ℕ → ℕ
-testByte row next down limit v zero = 0
-testByte row next down limit v (suc k) = cond (atMost (sums down (arcLanes row next v k)) limit) (suc k) 0
+-- the byte that remains: the child has numbers, and no lane that the arc brings up is above the parent's room
+abbrev pub testByte : List ℤ → List ℤ → List ℤ → ℕ → ℕ → ℕ
+testByte row next room v zero = 0
+testByte row next room v (suc k) = cond (far (lanesAt next (k * 17))) 0 (cond (atMost (arcLanes row next v k) room) (suc k) 0)
 
 -- of a node, from step v on
-abbrev pub testNode : List ℤ → List ℤ → List ℤ → List ℤ → ℕ → List ℕ → List ℕ
-testNode row next down limit v [] = []
-testNode row next down limit v (b ∷ bs) = testByte row next down limit v b ∷ testNode row next down limit (suc v) bs
+abbrev pub testNode : List ℤ → List ℤ → List ℤ → ℕ → List ℕ → List ℕ
+testNode row next room v [] = []
+testNode row next room v (b ∷ bs) = testByte row next room v b ∷ testNode row next room (suc v) bs
 
 -- ---- cells
 -- all zero where a number is missing, else 1, for each rule low and high down, low and high up, then both costs
@@ -92,6 +97,22 @@ downLanes m c =
     let high = padded 8 z (map (λ r. negℤ (getD c (4 * r + 2) z)) (from 0 m)) in
     cond (eqZ (getD c 0 z) z) nowhere (low ++ high ++ (getD c (4 * m + 1) z ∷ []))
 
+-- cells that hold down numbers only: the up numbers at zero, or all zero
+abbrev pub HalfNode : ℕ → List ℤ → Type 0
+HalfNode m c = c ≡ nodeLanes m (downLanes m c) (replicate 17 (pos 0))
+
+-- of w nodes
+pub record HalfCells (m w : ℕ) (cs : List ℤ) : Type 0 where
+  pub long : length cs ≡ w * (4 * m + 3)
+  pub inside : Each (Within 4000000) cs
+  pub nodes : Each (HalfNode m) (parted w (4 * m + 3) cs)
+
+-- what the arcs of a node may bring up: nothing if it has no down numbers, everything if the test is free, else what the limit leaves
+abbrev pub roomLanes : ℕ → Bool → List ℤ → List ℤ → List ℤ
+roomLanes m free limit c =
+    let z = pos 0 in
+    cond (eqZ (getD c 0 z) z) (replicate 17 (negℤ (pos 4000000))) (cond free (replicate 17 (pos 4000000)) (zipped _-ℤ_ limit (downLanes m c)))
+
 -- the cells of node j while only its down numbers are known: up at zero
 abbrev pub downCells : ℕ → List ℤ → ℕ → List ℤ
 downCells m here j = nodeLanes m (lanesAt here (j * 17)) (replicate 17 (pos 0))
@@ -101,11 +122,11 @@ abbrev pub upCells : ℕ → List ℤ → ℕ → List (List ℤ) → List (List
 upCells m here j [] = []
 upCells m here j (c ∷ cs) = nodeLanes m (downLanes m c) (lanesAt here (j * 17)) ∷ upCells m here (suc j) cs
 
--- ---- a layer: bytes and cells node by node
-abbrev pub testLayer : List ℤ → List ℤ → ℕ → List ℤ → List (List ℕ) → List (List ℤ) → List (List ℕ)
-testLayer row next m limit [] cs = []
-testLayer row next m limit (bs ∷ l) [] = []
-testLayer row next m limit (bs ∷ l) (c ∷ cs) = testNode row next (downLanes m c) limit 0 bs ∷ testLayer row next m limit l cs
+-- ---- a layer: bytes, by the rooms of its nodes, and cells
+abbrev pub testLayer : List ℤ → List ℤ → List (List ℕ) → List (List ℤ) → List (List ℕ)
+testLayer row next [] rooms = []
+testLayer row next (bs ∷ l) [] = []
+testLayer row next (bs ∷ l) (room ∷ rooms) = testNode row next room 0 bs ∷ testLayer row next l rooms
 
 abbrev pub layerCells : List ℤ → List ℤ → ℕ → List (List ℕ) → List (List ℤ) → List (List ℤ)
 layerCells row next m [] cs = []

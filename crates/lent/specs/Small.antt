@@ -8,7 +8,7 @@ use Rattle.laws.specs.Z.{Within}
 use Rattle.laws.proofs.Each.{Each}
 use Rattle.meaning.specs.Plan.{Campaign}
 use Rattle.meaning.specs.Diagram.{Pair, State, Arcs}
-use Rattle.meaning.specs.Filter.{Numbers, Test, onPath, within}
+use Rattle.meaning.specs.Filter.{Numbers}
 
 -- 8 steps, at most 24 slots and 8 rules; shares, prices and bounds of version 1, and no lead-ins
 pub record Small (q : Campaign) : Type 0 where
@@ -34,11 +34,6 @@ pub record FitSome (q : Campaign) (h : ℕ) (a : State × ℤ) : Type 0 where
 abbrev pub Fit : Campaign → ℕ → Numbers → Type 0
 Fit q h none = Unit {0}
 Fit q h (some a) = FitSome q h a
-
--- the ceiling of a test, if it has one
-abbrev pub CeilingFits : Test → Type 0
-CeilingFits onPath = Unit {0}
-CeilingFits (within c) = Within 2000000 c
 
 -- no node has more than 8 bytes
 abbrev pub FewBytes : Arcs → Type 0

@@ -1,8 +1,8 @@
 -- Which lanes stand for a node's numbers, for an arc, for a layer's row and for the limit of a test?
 use mathlib.Core.List.{List, [], _∷_, _++_, map}
+use mathlib.Core.Bool.{Bool, true, false}
 use mathlib.Core.Option.{none, some}
 use Prim.Native.Nat.{ℕ}
-use lib.ListN.{replicate}
 use lib.IntN.{ℤ, pos, negℤ}
 use Rattle.laws.specs.Lists.{gather, from, padded}
 use Rattle.meaning.specs.Plan.{Campaign}
@@ -30,7 +30,11 @@ slotVec q i = gather (arcVec q i) (from 0 (q .steps))
 abbrev pub rowVec : List Numbers → List ℤ
 rowVec ds = gather vec (padded 16 none ds)
 
--- the limit of a test: the bounds and the ceiling; the sweep's is never reached by numbers that are there
-abbrev pub limitVec : Test → Campaign → List ℤ
-limitVec onPath q = replicate 17 (pos 2000000)
-limitVec (within c) q = lanesOf (pos 2000000) (map (λ r. r .ub) (q .rules)) (map (λ r. r .lb) (q .rules)) c
+-- the sweep's test, or a round's
+abbrev pub testOf : Bool → ℤ → Test
+testOf true c = onPath
+testOf false c = within c
+
+-- the limit of a round: the bounds and the ceiling
+abbrev pub limitVec : ℤ → Campaign → List ℤ
+limitVec c q = lanesOf (pos 2000000) (map (λ r. r .ub) (q .rules)) (map (λ r. r .lb) (q .rules)) c
