@@ -97,6 +97,13 @@ module _ (f : ℤ → ℤ → ℤ) (x y : List ℤ) (wide : length x ≡ 17) (sa
   zipped-more {k = k} {v = v} l h e = laid-more l k v h (sym (zero-add k)) (e ∙ sym (zipped-at f x y k (omega arith) (omega arith)))
 
 -- ---- a loop that asks of each lane whether it is at most its limit: `ok` is what it has after k of them
+-- one lane above its limit decides
+pub one-above : (x y : List ℤ) (k : ℕ) → k < length x → k < length y → ltZ (getD y k (pos 0)) (getD x k (pos 0)) ≡ true → atMost x y ≡ false
+one-above [] y k h l e = absurd (omega arith)
+one-above (a ∷ x) [] k h l e = absurd (omega arith)
+one-above (a ∷ x) (b ∷ y) zero h l e = let o : leZ a b ≡ false = omega zarith in rw o refl
+one-above (a ∷ x) (b ∷ y) (suc k) h l e = and-false (leZ a b) (atMost x y) (one-above x y k (omega arith) (omega arith) e)
+
 pub record Asked (x y : List ℤ) (ok : Bool) (k : ℕ) : Type 0 where
   pub wide : length x ≡ 17
   pub same : length y ≡ 17
@@ -123,7 +130,11 @@ module _ {x y : List ℤ} {ok : Bool} {k : ℕ} (a : Asked x y ok k) where
   pub asked-within : k < 17 → ltZ (getD y k (pos 0)) (getD x k (pos 0)) ≡ false → Asked x y ok (k + 1)
   asked-within h e = record { wide = a .wide; same = a .same; done = omega arith; is = sym (turn h true (omega zarith)) }
 
-  pub asked-end : 17 ≤ k → ok ≡ atMost x y
+  asked-end : 17 ≤ k → ok ≡ atMost x y
   asked-end h =
       let none : drop k x ≡ [] = drop-of-length-le x {i = k} (omega (arith, a .wide)) in
       sym (and-true ok true refl) ∙ rw none at (a .is)
+
+-- after 16 lanes, where the last is within its limit
+pub asked-all : {x y : List ℤ} {ok : Bool} {k : ℕ} → Asked x y ok k → k ≡ 16 → ltZ (getD y 16 (pos 0)) (getD x 16 (pos 0)) ≡ false → ok ≡ atMost x y
+asked-all a h e = asked-end (asked-within a (omega arith) (rw h e)) (omega arith)

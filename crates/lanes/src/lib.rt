@@ -58,7 +58,7 @@ pub fn sum_of(x: [i32; 17], y: [i32; 17]) -> [i32; 17]
 }
 
 // The lesser of two.
-fn lesser(a: i32, b: i32) -> i32
+pub fn lesser(a: i32, b: i32) -> i32
     ensures { λ r. ⌜ r ≡ minZ a b ⌝ }
 {
     if a <= b { a } else { b }
@@ -83,9 +83,14 @@ pub fn least_of(x: [i32; 17], y: [i32; 17]) -> [i32; 17]
 pub fn at_most(x: [i32; 17], limit: [i32; 17]) -> bool
     ensures { λ r. ⌜ r ≡ atMost x limit ⌝ }
 {
+    let cost = x[16];
+    let most = limit[16];
+    if most < cost {
+        return false;
+    }
     let mut ok = true;
     let mut k: usize = 0;
-    while k < 17 {
+    while k < 16 {
         let a = x[k];
         let b = limit[k];
         if b < a {
