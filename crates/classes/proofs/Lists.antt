@@ -1,20 +1,19 @@
 -- Which nodes do the classes so far make, and what does one class more change?
 use mathlib.Core.Path.{_≡_, refl, ap, _∙_}
 use mathlib.Core.List.{List, [], _∷_, _++_, map}
-use Prim.Native.Nat.{ℕ, zero, suc, _+_, _≤_, _<_}
+use Prim.Native.Nat.{ℕ, zero, suc, _+_, _<_}
 use native.Mathlib.Nat.{zero-add}
 use native.Mathlib.Numerals.{add-one}
 use native.Mathlib.Omega.{arith}
 use lib.IntN.{ℤ, pos}
-use lib.ListN.{length, getD, set, take}
+use lib.ListN.{length, getD, set}
 use lib.Seq.{getD-set-same, getD-set-other}
 use Rattle.laws.specs.Lists.{from}
 use Rattle.laws.proofs.Each.{Each, each-map, each-from}
 use Rattle.meaning.specs.Diagram.{Node}
 use Rattle.lent.proofs.Places.{made-at, made-long}
 use Rattle.lent.proofs.FirstOrder.{Zero}
-use Rattle.classes.specs.Classes.{Held, stateAt, classesIn, noNode, Laid}
-use Rattle.classes.proofs.Children.{child-long}
+use Rattle.classes.specs.Classes.{stateAt, classesIn, noNode}
 
 -- ---- what a function makes of some numbers
 module _ {A : Type 0} where
@@ -31,11 +30,6 @@ module _ {A : Type 0} where
       let e : k + suc n ≡ suc k + n = omega arith in
       ap (λ (l : List A). f k ∷ l) (made-more f (suc k) n ∙ rw e)
 
-  made-take : (f : ℕ → A) (k m n : ℕ) → m ≤ n → take m (map f (from k n)) ≡ map f (from k m)
-  made-take f k zero n h = refl
-  made-take f k (suc m) zero h = absurd (omega arith)
-  made-take f k (suc m) (suc n) h = ap (λ (l : List A). f k ∷ l) (made-take f (suc k) m n (omega arith))
-
 -- ---- classes
 abbrev class : List ℤ → List ℤ → List ℕ → ℕ → Node
 class here row firsts k = (stateAt here row (getD firsts k 0), pos 0)
@@ -50,10 +44,6 @@ module _ (here row : List ℤ) (firsts : List ℕ) where
   pub classes-zero : (count : ℕ) → Each Zero (classesIn here row firsts count)
   classes-zero count = each-map (λ k. k < count) Zero (class here row firsts) (λ k h. refl) (from 0 count) (each-from (λ k. k < count) 0 count (λ k h. omega arith))
 
-  -- the first ones
-  pub classes-take : (k count : ℕ) → k ≤ count → take k (classesIn here row firsts count) ≡ classesIn here row firsts k
-  classes-take k count h = made-take (class here row firsts) 0 k count h
-
   -- one more
   pub classes-next : (count : ℕ) → classesIn here row firsts (count + 1) ≡ classesIn here row firsts count ++ (stateAt here row (getD firsts count 0), pos 0) ∷ []
   classes-next count = rw add-one (made-more (class here row firsts) 0 count ∙ rw (zero-add count))
@@ -64,16 +54,3 @@ pub classes-more : (here row : List ℤ) (firsts : List ℕ) (count f : ℕ) →
 classes-more here row firsts count f h =
     let same = made-same (class here row (set firsts count f)) (class here row firsts) 0 count (λ v b. rw (getD-set-other firsts count v f 0 (λ e. absurd (omega arith)))) in
     classes-next here row (set firsts count f) count ∙ rw (getD-set-same firsts count f 0 h) (ap (λ (l : List Node). l ++ (stateAt here row f, pos 0) ∷ []) same)
-
--- ---- first children laid
-pub laid-less : {firsts : List ℕ} {count : ℕ} (k : ℕ) → k ≤ count → Laid firsts count → Laid firsts k
-laid-less k h l = record { long = l .long; few = omega (arith, l .few); low = λ j b. l .low j (omega arith) }
-
--- a pair for each of eight rules
-abbrev pub Wide : Node → Type 0
-Wide n = length (n .0) ≡ 8
-
-pub classes-wide : {here row : List ℤ} {firsts : List ℕ} {count : ℕ} → Held here row → Laid firsts count → Each Wide (classesIn here row firsts count)
-classes-wide {here} {row} {firsts} {count} held l =
-    each-map (λ k. k < count) Wide (class here row firsts) (λ k h. child-long held (getD firsts k 0) (l .low k h)) (from 0 count)
-    (each-from (λ k. k < count) 0 count (λ k h. omega arith))

@@ -19,9 +19,9 @@ use Rattle.laws.proofs.Each.{Each}
 use Rattle.meaning.specs.Plan.{allows}
 use Rattle.meaning.specs.Problem.{stepCount}
 use Rattle.meaning.specs.Diagram.{State, eqState, Node, has, arrive, distinct}
-use Rattle.state.specs.Pairs.{mayFit, bucketOf}
+use Rattle.state.specs.Pairs.{fitsIn, bucketOf}
 use Rattle.lent.proofs.FirstOrder.{differ-arrive, place-is, arrive-new, place-new, arrive-old, placed-arrive, place-distinct, distinct-more}
-use Rattle.classes.specs.Classes.{stateAt, arrivalAt, classesIn, noNode, classByte, latest, Laid, Linked, Seen, Fresh, Found, Classed, Arrived, Classes}
+use Rattle.classes.specs.Classes.{stateAt, arrivalAt, classesIn, noNode, classByte, latest, Laid, Linked, Seen, Fresh, Found, Classed, Arrived}
 use Rattle.classes.proofs.Lists.{classes-long, classes-zero, classes-more}
 use Rattle.classes.proofs.Chains.{latest-append}
 
@@ -116,28 +116,28 @@ module _ {here row : List ℤ} {firsts older heads : List ℕ} {count : ℕ} (t 
       }
 
 -- ---- a child arrives, where its arc exists
-module _ (here row : List ℤ) (set : ℕ) (reach bounds : State) (f : ℕ) where
-  arrival-barred : allows stepCount set (f % 8) ≡ false → arrivalAt here row set reach bounds f ≡ none
+module _ (here row : List ℤ) (set : ℕ) (limit : State) (f : ℕ) where
+  arrival-barred : allows stepCount set (f % 8) ≡ false → arrivalAt here row set limit f ≡ none
   arrival-barred e = rw e
 
-  arrival-unfit : mayFit (stateAt here row f) reach bounds ≡ false → arrivalAt here row set reach bounds f ≡ none
-  arrival-unfit e = cond-second (allows stepCount set (f % 8) && mayFit (stateAt here row f) reach bounds) (some (stateAt here row f, pos 0)) none (and-false (allows stepCount set (f % 8)) (mayFit (stateAt here row f) reach bounds) e)
+  arrival-unfit : fitsIn (stateAt here row f) limit ≡ false → arrivalAt here row set limit f ≡ none
+  arrival-unfit e = cond-second (allows stepCount set (f % 8) && fitsIn (stateAt here row f) limit) (some (stateAt here row f, pos 0)) none (and-false (allows stepCount set (f % 8)) (fitsIn (stateAt here row f) limit) e)
 
-  arrival-there : allows stepCount set (f % 8) ≡ true → mayFit (stateAt here row f) reach bounds ≡ true → arrivalAt here row set reach bounds f ≡ some (stateAt here row f, pos 0)
+  arrival-there : allows stepCount set (f % 8) ≡ true → fitsIn (stateAt here row f) limit ≡ true → arrivalAt here row set limit f ≡ some (stateAt here row f, pos 0)
   arrival-there a e = rw (a, e)
 
   module _ {firsts older heads : List ℕ} {count : ℕ} (seen : Seen here row firsts older heads count) where
     no-arrival : (o : Option Node) → o ≡ none → Classed here row firsts firsts older heads count o 0
     no-arrival o e = rw e record { after = count; is = refl; seen = seen; grows = omega arith; byte = refl; new = λ h. absurd (omega arith); old = λ h. refl }
 
-    pub classed-barred : allows stepCount set (f % 8) ≡ false → Classed here row firsts firsts older heads count (arrivalAt here row set reach bounds f) 0
-    classed-barred e = no-arrival (arrivalAt here row set reach bounds f) (arrival-barred e)
+    pub classed-barred : allows stepCount set (f % 8) ≡ false → Classed here row firsts firsts older heads count (arrivalAt here row set limit f) 0
+    classed-barred e = no-arrival (arrivalAt here row set limit f) (arrival-barred e)
 
-    pub classed-unfit : (t : State) → t ≡ stateAt here row f → mayFit t reach bounds ≡ false → Classed here row firsts firsts older heads count (arrivalAt here row set reach bounds f) 0
-    classed-unfit t is e = no-arrival (arrivalAt here row set reach bounds f) (arrival-unfit (rw is at e))
+    pub classed-unfit : (t : State) → t ≡ stateAt here row f → fitsIn t limit ≡ false → Classed here row firsts firsts older heads count (arrivalAt here row set limit f) 0
+    classed-unfit t is e = no-arrival (arrivalAt here row set limit f) (arrival-unfit (rw is at e))
 
-  pub classed-there : {firsts firsts′ older heads : List ℕ} {count r : ℕ} (t : State) → t ≡ stateAt here row f → allows stepCount set (f % 8) ≡ true → mayFit t reach bounds ≡ true
-      → Arrived here row firsts firsts′ older heads count t r → Classed here row firsts firsts′ older heads count (arrivalAt here row set reach bounds f) r
+  pub classed-there : {firsts firsts′ older heads : List ℕ} {count r : ℕ} (t : State) → t ≡ stateAt here row f → allows stepCount set (f % 8) ≡ true → fitsIn t limit ≡ true
+      → Arrived here row firsts firsts′ older heads count t r → Classed here row firsts firsts′ older heads count (arrivalAt here row set limit f) r
   classed-there t is a e h = rw (arrival-there a (rw is at e), ← is) h
 
 -- the class plus 1 fits a byte
@@ -201,10 +201,10 @@ module _ {here row : List ℤ} {xs : List (Option Node)} {arcs₀ arcs firsts ol
         bytes = rw (s .bytes, ← here-now, add-one) (paste-next arcs₀ (map byte xs) f (omega (arith, s .room)) (omega (arith, length-map xs byte)));
       }
 
-  pub sought-end : length xs ≤ f → Classes here row xs firsts count × (arcs ≡ map (classByte (distinct [] xs)) xs ++ drop (length xs) arcs₀)
+  pub sought-end : length xs ≤ f → (count ≡ length (distinct [] xs)) × (arcs ≡ map (classByte (distinct [] xs)) xs ++ drop (length xs) arcs₀)
   sought-end h =
       let e : f ≡ length xs = omega (arith, s .low) in
       let all : take f xs ≡ xs = take-all f xs h in
       let bs = map (classByte (distinct [] xs)) xs in
       let full : take f bs ≡ bs = take-all f bs (omega (arith, length-map xs (classByte (distinct [] xs)))) in
-      (record { laid = s .seen .laid; is = s .is ∙ ap (distinct []) all }, s .bytes ∙ rw (full, zero-add f, e))
+      (sym (classes-long here row firsts count) ∙ ap length (s .is ∙ ap (distinct []) all), s .bytes ∙ rw (full, zero-add f, e))

@@ -5,7 +5,7 @@ use mathlib.Core.Bool.{true, false, _&&_, cond}
 use mathlib.Core.Option.{Option, none, some}
 use Prim.Native.Nat.{ℕ, zero, suc, _+_, _*_, _/_, _%_, _<_, _≤_}
 use lib.Dec.{eqb}
-use lib.ListN.{length, getD, take, drop}
+use lib.ListN.{length, getD}
 use lib.IntN.{ℤ, pos}
 use Rattle.laws.specs.Lists.{place, from}
 use Rattle.laws.specs.Z.{Within}
@@ -13,26 +13,40 @@ use Rattle.laws.proofs.Each.{Each}
 use Rattle.meaning.specs.Plan.{allows}
 use Rattle.meaning.specs.Problem.{stepCount}
 use Rattle.meaning.specs.Diagram.{State, eqState, Node, has, distinct}
-use Rattle.state.specs.Pairs.{shifted, mayFit, paired, bucketOf}
+use Rattle.state.specs.Pairs.{Inside, added, fitsIn, pairsAt, keyOf, bucketOf}
 use Rattle.lent.proofs.FirstOrder.{AllDiffer}
 
 -- ---- children
--- a layer's row has 16 numbers for each of 16 nodes, a slot's row 17 for each of 8 steps; totals within 190,000, shares within 10,000
+-- a layer's row has 17 lanes for each of 16 nodes, a slot's row 17 for each of 8 steps; shares within 10,000
 pub record Held (here row : List ℤ) : Type 0 where
-  pub nodes : length here ≡ 256
+  pub nodes : length here ≡ 272
   pub slot : length row ≡ 136
-  pub totals : Each (Within 190000) here
-  pub shares : (v : ℕ) → v < 8 → Each (Within 10000) (take 8 (drop (v * 17) row))
+  pub wide : Each (Within 4000000) here
+  pub shares : (v : ℕ) → v < 8 → Inside 10000 (pairsAt row (v * 17))
+
+-- the first nodes have totals within 190,000; behind them stand nodes without numbers
+pub record Totalled (here : List ℤ) (nodes : ℕ) : Type 0 where
+  pub few : nodes ≤ 16
+  pub totals : (j : ℕ) → j < nodes → Inside 190000 (pairsAt here (j * 17))
 
 -- the state of child f: step f % 8 of node f / 8
 abbrev pub stateAt : List ℤ → List ℤ → ℕ → State
-stateAt here row f = shifted (paired (take 16 (drop (f / 8 * 16) here))) (take 8 (drop (f % 8 * 17) row))
+stateAt here row f = added (pairsAt here (f / 8 * 17)) (pairsAt row (f % 8 * 17))
 
 -- child f, where the arc exists
-abbrev pub arrivalAt : List ℤ → List ℤ → ℕ → State → State → ℕ → Option Node
-arrivalAt here row set reach bounds f =
+abbrev pub arrivalAt : List ℤ → List ℤ → ℕ → State → ℕ → Option Node
+arrivalAt here row set limit f =
     let c = stateAt here row f in
-    cond (allows stepCount set (f % 8) && mayFit c reach bounds) (some (c, pos 0)) none
+    cond (allows stepCount set (f % 8) && fitsIn c limit) (some (c, pos 0)) none
+
+-- the keys of the first nodes, and from place 16 on those of the steps' shares
+pub record Keyed (here row : List ℤ) (nodes : ℕ) (keys : List ℤ) : Type 0 where
+  pub few : nodes ≤ 16
+  pub long : length keys ≡ 24
+  pub node : (j : ℕ) → j < nodes → getD keys j (pos 0) ≡ keyOf (pairsAt here (j * 17))
+  pub step : (v : ℕ) → v < 8 → getD keys (16 + v) (pos 0) ≡ keyOf (pairsAt row (v * 17))
+  pub nodeSmall : (j : ℕ) → j < nodes → Within 720000000 (getD keys j (pos 0))
+  pub stepSmall : (v : ℕ) → v < 8 → Within 40000000 (getD keys (16 + v) (pos 0))
 
 -- ---- classes
 -- the first classes, each by its first child
@@ -100,8 +114,3 @@ pub record Classed (here row : List ℤ) (firsts firsts′ older heads : List �
 
 abbrev pub Arrived : List ℤ → List ℤ → List ℕ → List ℕ → List ℕ → List ℕ → ℕ → State → ℕ → Type 0
 Arrived here row firsts firsts′ older heads count t r = Classed here row firsts firsts′ older heads count (some (t, pos 0)) r
-
--- all classes of some arrivals
-pub record Classes (here row : List ℤ) (xs : List (Option Node)) (firsts : List ℕ) (count : ℕ) : Type 0 where
-  pub laid : Laid firsts count
-  pub is : classesIn here row firsts count ≡ distinct [] xs

@@ -1,19 +1,19 @@
--- Which pairs does a state by value have, and what are its sums, tests and rows?
-use mathlib.Core.List.{List, [], _∷_, map}
+-- Which pairs does a state by value have, and what are its sums, tests, lanes and keys?
+use mathlib.Core.List.{List, [], _∷_, map, _++_}
 use mathlib.Core.Bool.{Bool, true, _&&_}
-use Prim.Native.Nat.{ℕ, _%_}
-use lib.IntN.{ℤ, pos, natAbs, _+ℤ_, _*ℤ_}
+use Prim.Native.Nat.{ℕ, _+_, _%_}
+use lib.ListN.{take, drop}
+use lib.IntN.{ℤ, pos, negℤ, natAbs, _+ℤ_, _-ℤ_, _*ℤ_}
 use lib.Signed.{leZ}
 use Rattle.laws.specs.Z.{Within}
-use Rattle.laws.specs.Lists.{gather}
 use Rattle.laws.proofs.Each.{Each}
 use Rattle.meaning.specs.Diagram as paper
 use Rattle.state.specs.declared.Pair.{Pair}
 use Rattle.state.specs.declared.State.{State}
 
--- low and high
+-- low and high; the high stands with its sign turned
 abbrev pub pairOf : Pair → paper.Pair
-pairOf p = (p .lo, p .hi)
+pairOf p = (p .lo, negℤ (p .hi))
 
 -- "one pair of running totals for every rule"
 abbrev pub pairs : State → paper.State
@@ -23,34 +23,37 @@ pairs s = map pairOf (s .at)
 abbrev pub Inside : ℕ → paper.State → Type 0
 Inside b t = Each (λ p. Within b (p .0) × Within b (p .1)) t
 
--- "L plus share and U plus share", place by place
-abbrev pub shifted : paper.State → List ℤ → paper.State
-shifted [] xs = []
-shifted (p ∷ t) [] = []
-shifted (p ∷ t) (x ∷ xs) = (p .0 +ℤ x, p .1 +ℤ x) ∷ shifted t xs
-
 -- place by place the sum
 abbrev pub added : paper.State → paper.State → paper.State
 added [] u = []
 added (p ∷ t) [] = []
 added (p ∷ t) (q ∷ u) = (p .0 +ℤ q .0, p .1 +ℤ q .1) ∷ added t u
 
--- L + least reach ≤ ub and U + greatest reach ≥ lb, place by place; a bound is the pair of lb and ub
-abbrev pub mayFit : paper.State → paper.State → paper.State → Bool
-mayFit [] es bs = true
-mayFit (p ∷ t) [] bs = true
-mayFit (p ∷ t) (e ∷ es) [] = true
-mayFit (p ∷ t) (e ∷ es) (b ∷ bs) = (leZ (p .0 +ℤ e .0) (b .1) && leZ (b .0) (p .1 +ℤ e .1)) && mayFit t es bs
+-- place by place the difference
+abbrev pub lessened : paper.State → paper.State → paper.State
+lessened [] u = []
+lessened (p ∷ t) [] = []
+lessened (p ∷ t) (q ∷ u) = (p .0 -ℤ q .0, p .1 -ℤ q .1) ∷ lessened t u
 
--- the pairs of a row: low, high, low, high
-abbrev pub paired : List ℤ → paper.State
-paired [] = []
-paired (x ∷ []) = []
-paired (x ∷ y ∷ l) = (x, y) ∷ paired l
+-- no low above the limit's, no high below it
+abbrev pub fitsIn : paper.State → paper.State → Bool
+fitsIn [] ls = true
+fitsIn (p ∷ t) [] = true
+fitsIn (p ∷ t) (l ∷ ls) = (leZ (p .0) (l .0) && leZ (l .1) (p .1)) && fitsIn t ls
 
--- the row of some pairs
+-- the pairs of some lows and some highs with their sign turned
+abbrev pub paired : List ℤ → List ℤ → paper.State
+paired [] ys = []
+paired (x ∷ xs) [] = []
+paired (x ∷ xs) (y ∷ ys) = (x, negℤ y) ∷ paired xs ys
+
+-- the pairs that stand at a place of a row: eight lows, eight turned highs
+abbrev pub pairsAt : List ℤ → ℕ → paper.State
+pairsAt row at = paired (take 8 (drop at row)) (take 8 (drop (at + 8) row))
+
+-- the lanes of some pairs: the lows, the turned highs
 abbrev pub unpaired : paper.State → List ℤ
-unpaired t = gather (λ p. p .0 ∷ p .1 ∷ []) t
+unpaired t = map (λ p. p .0) t ++ map (λ p. negℤ (p .1)) t
 
 -- the lows, each times a number of its place, added up
 abbrev pub keyed : List ℤ → paper.State → ℤ
@@ -58,7 +61,14 @@ keyed [] t = pos 0
 keyed (k ∷ ks) [] = pos 0
 keyed (k ∷ ks) (p ∷ t) = p .0 *ℤ k +ℤ keyed ks t
 
+-- a state's key
+abbrev pub keyOf : paper.State → ℤ
+keyOf t = keyed (pos 613 ∷ pos 397 ∷ pos 511 ∷ pos 301 ∷ pos 459 ∷ pos 547 ∷ pos 271 ∷ pos 653 ∷ []) t
+
 -- one of 256 buckets
+abbrev pub bucketIn : ℤ → ℕ
+bucketIn key = natAbs (pos 1000000000 +ℤ key) % 256
+
+-- of a state
 abbrev pub bucketOf : paper.State → ℕ
-bucketOf t =
-    natAbs (pos 1000000000 +ℤ keyed (pos 613 ∷ pos 397 ∷ pos 511 ∷ pos 301 ∷ pos 459 ∷ pos 547 ∷ pos 271 ∷ pos 653 ∷ []) t) % 256
+bucketOf t = bucketIn (keyOf t)

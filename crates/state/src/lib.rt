@@ -1,15 +1,14 @@
 // A node's state by value: one pair of running totals for every rule, low and high, compared and merged place by place.
+// The high stands with its sign turned, so that both ends of a pair merge and are tested alike: the least of both, at most the limit's.
 ghost use mathlib.Core.Path.{_≡_};
 ghost use Prim.Native.Nat.{_+_, _<_, _≤_};
-ghost use lib.ListN.{length, take, drop};
+ghost use lib.ListN.{length};
 ghost use lib.Seq.{paste};
-ghost use lib.IntN.{_+ℤ_};
-ghost use Rattle.laws.specs.Z.{Within, minZ, maxZ};
-ghost use Rattle.laws.proofs.Each.{Each};
+ghost use Rattle.laws.specs.Z.{Within, minZ};
 ghost use Rattle.meaning.specs.Diagram.{merged, mergedState, eqState};
-ghost use Rattle.state.specs.Pairs.{pairOf, pairs, Inside, shifted, added, mayFit, paired, unpaired, bucketOf};
+ghost use Rattle.state.specs.Pairs.{pairOf, pairs, Inside, added, lessened, fitsIn, pairsAt, unpaired, keyOf, bucketIn};
 
-// A rule's low and high.
+// A rule's low, and its high with the sign turned.
 pub struct Pair {
     pub lo: i32,
     pub hi: i32,
@@ -20,44 +19,40 @@ pub struct State {
     pub at: [Pair; 8],
 }
 
-// A pair with something added to its low and its high.
-fn pair_plus(p: Pair, lo: i32, hi: i32) -> Pair
-    requires { ⌜ Within 1000000 (p .lo) × Within 1000000 (p .hi) × Within 1000000 lo × Within 1000000 hi ⌝ }
-    ensures { λ r. ⌜ pairOf r ≡ (p .lo +ℤ lo, p .hi +ℤ hi) ⌝ }
-{
-    Pair {
-        lo: p.lo + lo,
-        hi: p.hi + hi,
-    }
-}
-
-// The child's state: L plus share and U plus share, the shares of eight rules standing at a place of a row.
+// The state with the pairs added that stand at a place of a row: L plus share and U plus share.
 pub fn child(s: State, row: &[i32], at: usize) -> State
-    requires { ⌜ (at + 8 ≤ length (now row)) × Inside 1000000 (pairs s) × Each (Within 1000000) (take 8 (drop at (now row))) ⌝ }
-    ensures { λ r. ⌜ pairs r ≡ shifted (pairs s) (take 8 (drop at (now (row .entry)))) ⌝ }
+    requires { ⌜ (at + 16 ≤ length (now row)) × Inside 10000000 (pairs s) × Inside 10000000 (pairsAt (now row) at) ⌝ }
+    ensures { λ r. ⌜ pairs r ≡ added (pairs s) (pairsAt (now (row .entry)) at) ⌝ }
 {
     let mut t = s;
     let mut k: usize = 0;
     while k < 8 {
         let p = s.at[k];
         let x = row[at + k];
-        t.at[k] = pair_plus(p, x, x);
+        let y = row[at + 8 + k];
+        t.at[k] = Pair {
+            lo: p.lo + x,
+            hi: p.hi + y,
+        };
         k += 1;
     }
     t
 }
 
-// Place by place the sum.
-pub fn plus(s: State, u: State) -> State
-    requires { ⌜ Inside 1000000 (pairs s) × Inside 1000000 (pairs u) ⌝ }
-    ensures { λ r. ⌜ pairs r ≡ added (pairs s) (pairs u) ⌝ }
+// Place by place the difference.
+pub fn less(s: State, u: State) -> State
+    requires { ⌜ Inside 10000000 (pairs s) × Inside 10000000 (pairs u) ⌝ }
+    ensures { λ r. ⌜ pairs r ≡ lessened (pairs s) (pairs u) ⌝ }
 {
     let mut t = s;
     let mut k: usize = 0;
     while k < 8 {
         let p = s.at[k];
         let q = u.at[k];
-        t.at[k] = pair_plus(p, q.lo, q.hi);
+        t.at[k] = Pair {
+            lo: p.lo - q.lo,
+            hi: p.hi - q.hi,
+        };
         k += 1;
     }
     t
@@ -70,24 +65,18 @@ fn least(a: i32, b: i32) -> i32
     if a <= b { a } else { b }
 }
 
-// The greater of two.
-fn greatest(a: i32, b: i32) -> i32
-    ensures { λ r. ⌜ r ≡ maxZ a b ⌝ }
-{
-    if a <= b { b } else { a }
-}
-
 // Least low and greatest high.
 fn merged_pair(p: Pair, q: Pair) -> Pair
     ensures { λ r. ⌜ pairOf r ≡ merged (pairOf p) (pairOf q) ⌝ }
 {
     let lo = least(p.lo, q.lo);
-    let hi = greatest(p.hi, q.hi);
+    let hi = least(p.hi, q.hi);
     Pair { lo: lo, hi: hi }
 }
 
 // Merged: least L and greatest U.
 pub fn merged(s: State, u: State) -> State
+    requires { ⌜ Inside 10000000 (pairs s) × Inside 10000000 (pairs u) ⌝ }
     ensures { λ r. ⌜ pairs r ≡ mergedState (pairs s) (pairs u) ⌝ }
 {
     let mut t = s;
@@ -113,6 +102,12 @@ pub fn same(s: State, u: State) -> bool
         if p.lo != q.lo {
             ok = false;
         }
+        k += 1;
+    }
+    k = 0;
+    while k < 8 {
+        let p = s.at[k];
+        let q = u.at[k];
         if p.hi != q.hi {
             ok = false;
         }
@@ -121,21 +116,25 @@ pub fn same(s: State, u: State) -> bool
     ok
 }
 
-// The arc may exist: at every place L + least reach ≤ ub and U + greatest reach ≥ lb; a bound's low is lb, its high ub.
-pub fn fits(s: State, reach: State, bounds: State) -> bool
-    requires { ⌜ Inside 1000000 (pairs s) × Inside 1000000 (pairs reach) ⌝ }
-    ensures { λ r. ⌜ r ≡ mayFit (pairs s) (pairs reach) (pairs bounds) ⌝ }
+// No low above the limit's and no high below it, at every place.
+pub fn fits(s: State, limit: State) -> bool
+    ensures { λ r. ⌜ r ≡ fitsIn (pairs s) (pairs limit) ⌝ }
 {
     let mut ok = true;
     let mut k: usize = 0;
     while k < 8 {
         let p = s.at[k];
-        let e = reach.at[k];
-        let b = bounds.at[k];
-        if b.hi < p.lo + e.lo {
+        let l = limit.at[k];
+        if l.lo < p.lo {
             ok = false;
         }
-        if p.hi + e.hi < b.lo {
+        k += 1;
+    }
+    k = 0;
+    while k < 8 {
+        let p = s.at[k];
+        let l = limit.at[k];
+        if l.hi < p.hi {
             ok = false;
         }
         k += 1;
@@ -143,17 +142,17 @@ pub fn fits(s: State, reach: State, bounds: State) -> bool
     ok
 }
 
-// The state that stands at a place of a row: low, high, low, high.
+// The state that stands at a place of a row: eight lows, eight turned highs.
 pub fn taken(row: &[i32], at: usize) -> State
     requires { ⌜ at + 16 ≤ length (now row) ⌝ }
-    ensures { λ r. ⌜ pairs r ≡ paired (take 16 (drop at (now (row .entry)))) ⌝ }
+    ensures { λ r. ⌜ pairs r ≡ pairsAt (now (row .entry)) at ⌝ }
 {
     let none = Pair { lo: 0, hi: 0 };
     let mut s = State { at: [none; 8] };
     let mut k: usize = 0;
     while k < 8 {
-        let lo = row[at + 2 * k];
-        let hi = row[at + 2 * k + 1];
+        let lo = row[at + k];
+        let hi = row[at + 8 + k];
         s.at[k] = Pair { lo: lo, hi: hi };
         k += 1;
     }
@@ -170,27 +169,35 @@ pub fn laid(row: &mut [i32], at: usize, s: State)
         let p = s.at[k];
         let lo = p.lo;
         let hi = p.hi;
-        row[at + 2 * k] = lo;
-        row[at + 2 * k + 1] = hi;
+        row[at + k] = lo;
+        row[at + 8 + k] = hi;
         k += 1;
     }
 }
 
-// What each rule's low counts for the bucket.
+// What each rule's low counts for the key.
 const TIMES: [i32; 8] = [613, 397, 511, 301, 459, 547, 271, 653];
 
-// Which of 256 buckets the state belongs to: equal states, equal buckets.
-pub fn bucket(s: State) -> usize
+// A state's key: equal states have equal keys, and the key of a sum is the sum of the keys.
+pub fn key(s: State) -> i32
     requires { ⌜ Inside 200000 (pairs s) ⌝ }
-    ensures { λ r. ⌜ (r ≡ bucketOf (pairs s)) × (r < 256) ⌝ }
+    ensures { λ r. ⌜ r ≡ keyOf (pairs s) ⌝ }
 {
     let times = TIMES;
-    let mut key: i32 = 1000000000;
+    let mut key: i32 = 0;
     let mut k: usize = 0;
     while k < 8 {
         let p = s.at[k];
         key = key + p.lo * times[k];
         k += 1;
     }
-    (key as usize) % 256
+    key
+}
+
+// Which of 256 buckets a key belongs to.
+pub fn bucket(key: i32) -> usize
+    requires { ⌜ Within 1000000000 key ⌝ }
+    ensures { λ r. ⌜ (r ≡ bucketIn key) × (r < 256) ⌝ }
+{
+    ((1000000000 + key) as usize) % 256
 }

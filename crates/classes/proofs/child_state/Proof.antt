@@ -1,6 +1,9 @@
 -- `child_state` meets its contract: a node's totals and a step's shares.
+use Prim.Native.Nat.{_/_, _%_, _<_}
+use native.Mathlib.Nat.{mod-lt}
+use native.Mathlib.Omega.{arith}
+use Rattle.classes.proofs.Children.{step-room, node-fits, step-fits}
 use borrow.Author.Needs.{needs}
-use Rattle.classes.proofs.Children.{parent-fits, shares-place, shares-fit}
 use Rattle.classes.proofs.child_state.Statement.{statement}
 use Rattle.classes.proofs.child_state.Tie as tie
 
@@ -17,7 +20,8 @@ child-requires : tie.Need-child-requires
 child-requires c κs =
     let held = c .before .pre .0 in
     let f = c .before .args .f in
-    (shares-place held f, rw (c .taken .ensures) (parent-fits held f), shares-fit held f)
+    let low : f % 8 < 8 = mod-lt f (omega arith) in
+    (step-room held (f % 8) low, rw (c .taken .ensures) (node-fits held (f / 8)), step-fits held (f % 8) low)
 
 returns : tie.Need-returns
 returns c = rw (← c .before .taken .ensures) (c .child .ensures)

@@ -1,101 +1,22 @@
--- The lows, each times its number, added up: within 1,750,400,000 and never negative.
-use Prim.Native.Nat.{_+_, _≤_, _-_}
+-- A billion and the key are never negative, and at most two billion.
 use native.Mathlib.Nat.{mod-lt}
-use mathlib.Core.Path.{_≡_, refl}
-use mathlib.Core.List.{map}
 use native.Mathlib.Omega.{arith}
-use lib.IntN.{natAbs}
 use lib.Signed.{yes-nonNeg}
-use lib.ListN.{length}
-use mir.Syntax.{w32}
-use mir.Val.{toZ}
 use Rattle.laws.specs.Z.{fits32, widen, back-is}
-use Rattle.state.specs.Pairs.{pairOf, pairs}
-use borrow.Author.Needs.{needs}
-use Rattle.state.proofs.Sizes.{mapped}
-use Rattle.state.proofs.Keys.{keyTo, key-size, key-more, step-is, step-size}
+use Rattle.state.proofs.Keys.{bucket-size, bucket-above}
 use Rattle.state.proofs.bucket.Statement.{statement}
 use Rattle.state.proofs.bucket.Tie as tie
 
-abbrev Inv-loop : tie.InvT-loop
-Inv-loop s times key₀ k₀ key k = (length (s .at) ≡ 8) × (k ≤ 8) × (toZ w32 key ≡ keyTo k (pairs s))
+add-result : tie.Need-add-result
+add-result c = rw (back-is (c .pre) tt) (fits32 (widen tt (bucket-size (c .pre))))
 
-abbrev μ-loop : tie.MeasureT-loop
-μ-loop s times key₀ k₀ key k = 8 - k
-
-loop-holds : tie.Need-loop-holds Inv-loop μ-loop
-loop-holds c = (search mapped, omega arith, refl)
-
-mul-p : tie.Need-mul-p Inv-loop μ-loop
-mul-p c = search needs
-
-element-copy-out-p : tie.Need-element-copy-out-p Inv-loop μ-loop
-element-copy-out-p c = search needs
-
-mul-key : tie.Need-mul-key Inv-loop μ-loop
-mul-key c = search needs
-
-array-copy-out-key : tie.Need-array-copy-out-key Inv-loop μ-loop
-array-copy-out-key c = search needs
-
-mul-key-2 : tie.Need-mul-key-2 Inv-loop μ-loop
-mul-key-2 c =
-    let start = c .before .before .before .before .before .before in
-    let s = start .args .t1 .at in
-    let k = c .before .before .before .before .before .loop .k in
-    rw (step-is s k (start .pre)) (fits32 (widen tt (step-size s k (start .pre))))
-
-add-key : tie.Need-add-key Inv-loop μ-loop
-add-key c =
-    let start = c .before .before .before .before .before .before in
-    let head = c .before .before .before .before .before .loop in
-    let s = start .args .t1 .at in
-    rw (key-more s (head .k) (start .pre) (toZ w32 (head .key)) (head .inv .0) (omega arith) (head .inv .2)) (fits32 (widen tt (key-size (head .k + 1) (map pairOf s) (start .pre) .0)))
-
-add-k : tie.Need-add-k Inv-loop μ-loop
-add-k c = search needs
-
-loop-less : tie.Need-loop-less Inv-loop μ-loop
-loop-less c = search needs
-
-loop-again : tie.Need-loop-again Inv-loop μ-loop
-loop-again c =
-    let start = c .before .before .before .before .before .before in
-    let head = c .before .before .before .before .before .loop in
-    let s = start .args .t1 .at in (
-      head .inv .0,
-      omega arith,
-      rw (key-more s (head .k) (start .pre) (toZ w32 (head .key)) (head .inv .0) (omega arith) (head .inv .2)) (back-is (key-size (head .k + 1) (map pairOf s) (start .pre) .0) tt),
-    )
-
-cast-result : tie.Need-cast-result Inv-loop μ-loop
+cast-result : tie.Need-cast-result
 cast-result c =
-    let head = c .before .loop in
-    let size = key-size (head .k) (pairs (c .before .before .args .t1)) (c .before .before .pre) in
-    rw (head .inv .2) (yes-nonNeg (size .1), record { fits = omega (arith, size .0 .size) })
+    let size = bucket-size (c .pre) in
+    rw (back-is (c .pre) tt, back-is size tt) (yes-nonNeg (bucket-above (c .pre)), record { fits = omega (arith, size .size) })
 
-returns : tie.Need-returns Inv-loop μ-loop
-returns c =
-    let head = c .before .loop in
-    let e : head .k ≡ 8 = omega arith in
-    let key : toZ w32 (head .key) ≡ keyTo 8 (pairs (c .before .before .args .t1)) = rw e at (head .inv .2) in
-    (rw key, mod-lt (natAbs (toZ w32 (head .key))) (omega arith))
+returns : tie.Need-returns
+returns c = (rw (back-is (c .pre) tt, back-is (bucket-size (c .pre)) tt), mod-lt _ (omega arith))
 
 pub bucket-spec : {M : Type 1} → statement M
-bucket-spec =
-    tie.close
-    (tie.spec
-    Inv-loop
-    μ-loop
-    loop-holds
-    mul-p
-    element-copy-out-p
-    mul-key
-    array-copy-out-key
-    mul-key-2
-    add-key
-    add-k
-    loop-less
-    loop-again
-    cast-result
-    returns)
+bucket-spec = tie.close (tie.spec add-result cast-result returns)

@@ -1,20 +1,20 @@
 -- Pair by pair from the row. The first k pairs are taken.
-use Prim.Native.Nat.{_+_, _*_, _≤_, _-_}
-use mathlib.Core.Path.{_≡_, refl, sym, _∙_}
+use Prim.Native.Nat.{_+_, _≤_, _-_}
+use mathlib.Core.Path.{_≡_, refl, _∙_}
 use native.Mathlib.Omega.{arith}
 use lib.IntN.{pos}
-use lib.ListN.{getD, take, drop, replicate}
+use lib.ListN.{getD, replicate}
 use Rattle.laws.specs.Z.{told}
-use Rattle.state.specs.Pairs.{pairOf, pairs, paired}
-use borrow.Author.Needs.{needs}
+use Rattle.state.specs.Pairs.{pairs, pairsAt}
 use Rattle.state.proofs.Joined.{noPair}
-use Rattle.state.proofs.Turns.{filled, filled-all, stored, row-long}
-use Rattle.state.proofs.Rows.{paired-length, taken-at}
+use Rattle.state.proofs.Turns.{filled, filled-all}
+use Rattle.state.proofs.Rows.{pairs-length, taken-more}
+use borrow.Author.Needs.{needs}
 use Rattle.state.proofs.taken.Statement.{statement}
 use Rattle.state.proofs.taken.Tie as tie
 
 abbrev Inv-loop : tie.InvT-loop
-Inv-loop row at s₀ k₀ s k = (k ≤ 8) × (pairs s ≡ filled k (paired (take 16 (drop at row))) (pairs s₀))
+Inv-loop row at s₀ k₀ s k = (k ≤ 8) × (pairs s ≡ filled k (pairsAt row at) (pairs s₀))
 
 abbrev μ-loop : tie.MeasureT-loop
 μ-loop row at s₀ k₀ s k = 8 - k
@@ -22,20 +22,14 @@ abbrev μ-loop : tie.MeasureT-loop
 loop-holds : tie.Need-loop-holds Inv-loop μ-loop
 loop-holds c = (omega arith, refl)
 
-mul-lo : tie.Need-mul-lo Inv-loop μ-loop
-mul-lo c = search needs
-
 add-lo : tie.Need-add-lo Inv-loop μ-loop
 add-lo c = search needs
 
-mul-lo-2 : tie.Need-mul-lo-2 Inv-loop μ-loop
-mul-lo-2 c = search needs
+mul-lo : tie.Need-mul-lo Inv-loop μ-loop
+mul-lo c = search needs
 
 shared-slice-copy-out-lo : tie.Need-shared-slice-copy-out-lo Inv-loop μ-loop
 shared-slice-copy-out-lo c = search needs
-
-mul-hi : tie.Need-mul-hi Inv-loop μ-loop
-mul-hi c = search needs
 
 add-hi : tie.Need-add-hi Inv-loop μ-loop
 add-hi c = search needs
@@ -43,8 +37,8 @@ add-hi c = search needs
 add-hi-2 : tie.Need-add-hi-2 Inv-loop μ-loop
 add-hi-2 c = search needs
 
-mul-hi-2 : tie.Need-mul-hi-2 Inv-loop μ-loop
-mul-hi-2 c = search needs
+mul-hi : tie.Need-mul-hi Inv-loop μ-loop
+mul-hi c = search needs
 
 shared-slice-copy-out-hi : tie.Need-shared-slice-copy-out-hi Inv-loop μ-loop
 shared-slice-copy-out-hi c = search needs
@@ -63,25 +57,18 @@ loop-less c = search needs
 
 loop-again : tie.Need-loop-again Inv-loop μ-loop
 loop-again c =
-    let a = c .before .before .before .before .args in
+    let start = c .before .before .before .before in
     let head = c .before .before .before .loop in
-    let row = a .row .now in
-    let lo = getD row (a .at + 2 * head .k) (pos 0) in
-    let hi = getD row (a .at + 2 * head .k + 1) (pos 0) in
-    let long = row-long row (a .at) 16 (omega arith) in (
-      omega arith,
-      rw (told lo (c .before .lo .given), told hi (c .hi .given))
-          (stored pairOf (head .s .at) (head .k) (record { lo = lo; hi = hi }) (paired (take 16 (drop (a .at) row))) (replicate 8 noPair) noPair
-          (omega (arith, paired-length (take 16 (drop (a .at) row)) 8 long)) (omega arith) (head .inv .1) (sym (taken-at row (a .at) (head .k) (omega arith) (omega arith)))),
-    )
+    let row = start .args .row .now in
+    let lo = getD row (start .args .at + head .k) (pos 0) in
+    let hi = getD row (start .args .at + 8 + head .k) (pos 0) in
+    (omega arith, rw (told lo (c .before .lo .given), told hi (c .hi .given)) (taken-more row (start .args .at) (start .pre) (head .k) (omega arith) (head .s .at) (replicate 8 noPair) refl (head .inv .1)))
 
 returns : tie.Need-returns Inv-loop μ-loop
 returns c =
-    let a = c .before .before .args in
+    let start = c .before .before in
     let head = c .before .loop in
-    let r = take 16 (drop (a .at) (a .row .now)) in
-    let long = row-long (a .row .now) (a .at) 16 (omega arith) in
-    head .inv .1 ∙ filled-all (head .k) (paired r) (replicate 8 noPair) (omega (arith, paired-length r 8 long)) (omega arith)
+    head .inv .1 ∙ filled-all (head .k) (pairsAt (start .args .row .now) (start .args .at)) (replicate 8 noPair) (omega (arith, pairs-length (start .args .row .now) (start .args .at) (start .pre))) (omega arith)
 
 pub taken-spec : {M : Type 1} → statement M
 taken-spec =
@@ -90,14 +77,12 @@ taken-spec =
     Inv-loop
     μ-loop
     loop-holds
-    mul-lo
     add-lo
-    mul-lo-2
+    mul-lo
     shared-slice-copy-out-lo
-    mul-hi
     add-hi
     add-hi-2
-    mul-hi-2
+    mul-hi
     shared-slice-copy-out-hi
     mul-t10
     element-set-from-s
