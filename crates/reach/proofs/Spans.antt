@@ -1,38 +1,76 @@
--- How does the span over a slot's steps come about, step by step?
+-- How does the least over a slot's steps come about, step by step?
 use mathlib.Core.Path.{_≡_, refl, sym, ap, _∙_}
 use mathlib.Core.List.{List, [], _∷_}
-use mathlib.Core.Bool.{Bool, true, false, _&&_, cond, true≢false}
-use Prim.Native.Nat.{ℕ, suc, _+_, _-_, _≤_, _<_}
+use mathlib.Core.Bool.{Bool, true, false, _&&_, cond}
+use Prim.Native.Nat.{ℕ, suc, _+_, _*_, _-_, _/_, _%_, _^_, _≤_, _<_}
 use native.Mathlib.Omega.{arith}
 use native.Mathlib.Numerals.{add-one}
 use lib.Dec.{ltb}
-use lib.IntN.{ℤ, pos}
-use borrow.Author.Tests.{lt-ltb}
-use Rattle.laws.specs.Z.{Within}
+use lib.ListN.{length}
+use lib.IntN.{ℤ}
+use borrow.Author.Tests.{lt-ltb, eqb-false, ne-eqb}
 use Rattle.laws.specs.Lists.{keep, from}
 use Rattle.laws.proofs.Lists.{and-r}
+use Rattle.laws.proofs.Each.{Each}
 use Rattle.meaning.specs.Plan.{bit, allows, stepsOf}
-use Rattle.meaning.specs.Diagram.{State}
-use Rattle.state.specs.Pairs.{Inside}
-use Rattle.reach.specs.Spans.{noPairs, stepPairs, spanMore, spanOf, joinedTo}
+use Rattle.lent.specs.Lanes.{lanesAt, leasts}
+use Rattle.lent.specs.Passes.{nowhere}
+use Rattle.reach.specs.Spans.{leastMore, leastOver}
 
--- what is left to do: more steps, or the first ones
-abbrev rest : List ℤ → State → Bool → List ℕ → State
-rest row s true vs = spanMore row s vs
-rest row s false vs = spanOf row vs
+-- ---- a set that has none of the steps
+-- nothing is kept where every test fails
+keep-none : (f : ℕ → Bool) (l : List ℕ) → Each (λ v. f v ≡ false) l → keep f l ≡ []
+keep-none f [] h = refl
+keep-none f (v ∷ l) h = rw (h .0) (keep-none f l (h .1))
 
+-- and only there
+none-kept : (f : ℕ → Bool) (l : List ℕ) → keep f l ≡ [] → Each (λ v. f v ≡ false) l
+none-kept f [] e = tt
+none-kept f (v ∷ l) e = go (f v) refl e (none-kept f l)
+  where
+    go : (t : Bool) → f v ≡ t → cond t (v ∷ keep f l) (keep f l) ≡ [] → (keep f l ≡ [] → Each (λ v. f v ≡ false) l) → (f v ≡ false) × Each (λ v. f v ≡ false) l
+    go true g k r = absurd (omega (arith, ap length k))
+    go false g k r = (g, r k)
+
+-- if its lowest eight bits are zero
+pub no-steps : (set : ℕ) → set % 256 ≡ 0 → stepsOf 8 set ≡ []
+no-steps set e =
+    keep-none (bit set) (from 0 8)
+    (off 0 (omega arith), (off 1 (omega arith), (off 2 (omega arith), (off 3 (omega arith), (off 4 (omega arith), (off 5 (omega arith), (off 6 (omega arith), (off 7 (omega arith), tt))))))))
+  where
+    off : (v : ℕ) → set / 2 ^ v % 2 ≡ 0 → bit set v ≡ false
+    off v h = ne-eqb (set / 2 ^ v % 2) 1 (λ k. omega arith)
+
+-- and only then, one bit after the other
+steps-none : (set : ℕ) → stepsOf 8 set ≡ [] → set % 256 ≡ 0
+steps-none set e =
+    let b = none-kept (bit set) (from 0 8) e in
+    let even0 : set ≡ 2 * (set / 2) = omega (arith, off 0 (b .0)) in
+    let even1 : set / 2 ≡ 2 * (set / 4) = omega (arith, off 1 (b .1 .0)) in
+    let even2 : set / 4 ≡ 2 * (set / 8) = omega (arith, off 2 (b .1 .1 .0)) in
+    let even3 : set / 8 ≡ 2 * (set / 16) = omega (arith, off 3 (b .1 .1 .1 .0)) in
+    let even4 : set / 16 ≡ 2 * (set / 32) = omega (arith, off 4 (b .1 .1 .1 .1 .0)) in
+    let even5 : set / 32 ≡ 2 * (set / 64) = omega (arith, off 5 (b .1 .1 .1 .1 .1 .0)) in
+    let even6 : set / 64 ≡ 2 * (set / 128) = omega (arith, off 6 (b .1 .1 .1 .1 .1 .1 .0)) in
+    let even7 : set / 128 ≡ 2 * (set / 256) = omega (arith, off 7 (b .1 .1 .1 .1 .1 .1 .1 .0)) in
+    omega arith
+  where
+    off : (v : ℕ) → bit set v ≡ false → set / 2 ^ v % 2 ≡ 0
+    off v h = omega (arith, eqb-false (set / 2 ^ v % 2) 1 h)
+
+-- ---- the loop over the steps
 -- the steps of the set from v on
 abbrev ahead : ℕ → ℕ → List ℕ
 ahead set v = keep (bit set) (from v (8 - v))
 
--- the steps before v are in s, if there are some
-pub record Spanned (row : List ℤ) (set v : ℕ) (s : State) (some : Bool) : Type 0 where
+-- the steps before v are in s
+pub record Spanned (row : List ℤ) (set v : ℕ) (s : List ℤ) : Type 0 where
   pub low : v ≤ 8
-  pub is : rest row s some (ahead set v) ≡ spanOf row (stepsOf 8 set)
-  pub none : some ≡ false → s ≡ noPairs
+  pub is : leastMore row s (ahead set v) ≡ leastMore row nowhere (stepsOf 8 set)
 
-pub span-start : (row : List ℤ) (set : ℕ) → Spanned row set 0 noPairs false
-span-start row set = record { low = omega arith; is = refl; none = λ e. refl }
+-- none is
+pub span-start : (row : List ℤ) (set : ℕ) → Spanned row set 0 nowhere
+span-start row set = record { low = omega arith; is = refl }
 
 -- the step's bit is what `allows` says
 step-bit : (set v : ℕ) (t : Bool) → v < 8 → allows 8 set v ≡ t → bit set v ≡ t
@@ -45,35 +83,22 @@ next set v t h e =
     let o : 8 - v ≡ suc (8 - (v + 1)) = omega arith in
     ap (λ n. keep (bit set) (from v n)) o ∙ rw (step-bit set v t h e, add-one) refl
 
-module _ {row : List ℤ} {set v : ℕ} {s : State} {some : Bool} (p : Spanned row set v s some) (h : v < 8) where
-  pub span-yes : allows 8 set v ≡ true → (t u : State) (b : Bool) → t ≡ stepPairs row v → u ≡ joinedTo s some t → b ≡ true → Spanned row set (v + 1) u b
-  span-yes e t u b f g j =
-      rw j (record { low = omega arith; is = go some (p .is) (g ∙ ap (joinedTo s some) f); none = λ k. absurd (true≢false k) })
+module _ {row : List ℤ} {set v : ℕ} {s : List ℤ} (p : Spanned row set v s) where
+  -- a step of the set
+  pub span-yes : v < 8 → allows 8 set v ≡ true → (u : List ℤ) → u ≡ leasts s (lanesAt row (v * 17)) → Spanned row set (v + 1) u
+  span-yes h e u f = record { low = omega arith; is = ap (λ z. leastMore row z (ahead set (v + 1))) f ∙ sym (ap (leastMore row s) (next set v true h e)) ∙ p .is }
+
+  -- a step that it has not
+  pub span-no : v < 8 → allows 8 set v ≡ false → (u : List ℤ) → u ≡ s → Spanned row set (v + 1) u
+  span-no h e u f = record { low = omega arith; is = (λ d. leastMore row (f d) (sym (next set v false h e) d)) ∙ p .is }
+
+  -- all are, where it has one
+  pub span-end : 8 ≤ v → (set % 256 ≡ 0 → ⊥) → s ≡ leastOver row (stepsOf 8 set)
+  span-end h some = go (stepsOf 8 set) (λ e. some (steps-none set e)) (ap (leastMore row s) (sym none-left) ∙ p .is)
     where
-      steps : ahead set v ≡ v ∷ ahead set (v + 1)
-      steps = next set v true h e
+      none-left : ahead set v ≡ []
+      none-left = let o : 8 - v ≡ 0 = omega arith in rw o refl
 
-      go : (b : Bool) → rest row s b (ahead set v) ≡ spanOf row (stepsOf 8 set) → u ≡ joinedTo s b (stepPairs row v) → spanMore row u (ahead set (v + 1)) ≡ spanOf row (stepsOf 8 set)
-      go true k l = ap (λ z. spanMore row z (ahead set (v + 1))) l ∙ sym (ap (spanMore row s) steps) ∙ k
-      go false k l = ap (λ z. spanMore row z (ahead set (v + 1))) l ∙ sym (ap (spanOf row) steps) ∙ k
-
-  pub span-no : allows 8 set v ≡ false → (u : State) (b : Bool) → u ≡ s → b ≡ some → Spanned row set (v + 1) u b
-  span-no e u b f g =
-      rw (f, g) (record { low = omega arith; is = ap (rest row s some) (sym (next set v false h e)) ∙ p .is; none = p .none })
-
-pub span-end : {row : List ℤ} {set v : ℕ} {s : State} {some : Bool} → Spanned row set v s some → 8 ≤ v → s ≡ spanOf row (stepsOf 8 set)
-span-end {row} {set} {v} {s} {some} p h = go some (p .none) (ap (rest row s some) (sym none-left) ∙ p .is)
-  where
-    none-left : ahead set v ≡ []
-    none-left = let o : 8 - v ≡ 0 = omega arith in rw o refl
-
-    go : (b : Bool) → (b ≡ false → s ≡ noPairs) → rest row s b [] ≡ spanOf row (stepsOf 8 set) → s ≡ spanOf row (stepsOf 8 set)
-    go true f k = k
-    go false f k = f refl ∙ k
-
--- zeros are within every size
-pub none-inside : Inside 1000000 noPairs
-none-inside = (z, (z, (z, (z, (z, (z, (z, (z, tt))))))))
-  where
-    z : Within 1000000 (pos 0) × Within 1000000 (pos 0)
-    z = (record { size = omega arith }, record { size = omega arith })
+      go : (vs : List ℕ) → (vs ≡ [] → ⊥) → s ≡ leastMore row nowhere vs → s ≡ leastOver row vs
+      go [] f k = absurd (f refl)
+      go (w ∷ vs) f k = k

@@ -1,120 +1,137 @@
--- Are the spans of a slot's row those of the rules, and does the table keep the reaches of the layers behind?
-use mathlib.Core.Path.{_≡_, refl, sym, ap, _∙_}
-use mathlib.Core.List.{List, [], _∷_, _++_, map, append-assoc}
+-- Is the least over a slot's steps the span of every rule, and does the table keep the reaches of the layers behind?
+use mathlib.Core.Path.{_≡_, refl, sym, ap, subst, _∙_}
+use mathlib.Core.List.{List, [], _∷_, _++_, map, map-map}
+use mathlib.Core.Option.{none, some}
 use Prim.Native.Nat.{ℕ, zero, suc, _+_, _*_, _-_, _≤_, _<_}
 use native.Mathlib.Omega.{arith}
-use native.Mathlib.Nat.{zero-add}
 use native.Mathlib.Decide.{decLt}
-use lib.ListN.{length, take, drop, replicate, length-map, length-drop, drop-of-length-le}
+use lib.ListN.{length, take, drop, replicate, length-map, length-append, length-drop, drop-of-length-le}
 use lib.Seq.{paste, take-take, take-at, drop-drop, drop-paste, length-paste}
 use lib.IntN.{ℤ, pos, negℤ, _+ℤ_}
-use Rattle.laws.specs.Z.{Within, zarith, sum, widen, sum-within}
+use lib.Signed.{leZ}
+use Rattle.laws.specs.Z.{minZ, Within, widen, sum-within}
 use Rattle.laws.specs.Lists.{from, padded}
 use Rattle.laws.proofs.Lists.{map-same}
-use Rattle.laws.proofs.Each.{Each, each-map, each-keep, each-from}
-use Rattle.laws.proofs.Filled.{length-padded, padded-none, part-pasted, each-padded}
-use lib.Signed.{leZ}
+use Rattle.laws.proofs.Each.{Each, each-more, each-map, each-keep, each-from}
+use Rattle.laws.proofs.Filled.{length-padded}
 use Rattle.meaning.specs.Plan.{Rule, Campaign, slots, bit, stepsOf}
-use Rattle.meaning.proofs.Sizes.{larger, either}
 use Rattle.meaning.specs.Diagram.{Pair, State, merged, mergedState, span, reach, reaches}
-use Rattle.lent.specs.Vec.{slotVec}
-use Rattle.lent.specs.Small.{Small}
+use Rattle.meaning.proofs.Sizes.{larger, either}
+use Rattle.lent.specs.Lanes.{lanesAt, sums, leasts}
+use Rattle.lent.specs.Passes.{nowhere}
+use Rattle.lent.specs.Vec.{lanesOf, vec, slotVec}
+use Rattle.lent.specs.Small.{Small, FitPair, FitSome}
+use Rattle.lent.proofs.Lanes.{zipped-block, neg-sum}
 use Rattle.lent.proofs.Scatter.{min-assoc, max-assoc}
-use Rattle.lent.proofs.Vec.{slot-at, slot-vec}
-use Rattle.state.specs.Pairs.{Inside, shifted, added, paired, unpaired}
+use Rattle.lent.proofs.Vec.{length-vec, length-lows, length-highs, some-within, slot-at, leasts-meet}
+use Rattle.lent.proofs.Fit.{meet-fit}
+use Rattle.lent.proofs.Cells.{zeros-vec}
+use Rattle.lanes.proofs.Laws.{lanes-pasted}
+use Rattle.state.specs.Pairs.{Inside, pairsAt}
 use Rattle.state.proofs.Sizes.{inside-more}
-use Rattle.state.proofs.Rows.{unpaired-length, paired-unpaired}
-use Rattle.state.proofs.Joined.{noPair}
-use Rattle.state.proofs.Padded.{shifted-padded, added-padded, merged-padded, inside-padded}
-use Rattle.reach.specs.Spans.{noPairs, Shares, stepPairs, spanMore, spanOf, Reached}
+use Rattle.state.proofs.Rows.{pairs-of}
+use Rattle.state.proofs.Joined.{noPair, add}
+use Rattle.state.proofs.Padded.{shareOf, inside-padded}
+use Rattle.reach.specs.Spans.{leastMore, leastOver, Reached}
+
+-- ---- the pairs that stand in lanes
+-- what f makes of a list that is filled up
+map-padded : {A B : Type 0} (f : A → B) (n : ℕ) (d : A) (l : List A) → map f (padded n d l) ≡ padded n (f d) (map f l)
+map-padded f zero d l = refl
+map-padded {B = B} f (suc n) d [] = ap (λ (r : List B). f d ∷ r) (map-padded f n d [])
+map-padded {B = B} f (suc n) d (x ∷ l) = ap (λ (r : List B). f x ∷ r) (map-padded f n d l)
+
+-- of lanes that stand for numbers: those of the rules, zeros behind them
+pub lanes-pairs : (row : List ℤ) (at : ℕ) (t : State) (c : ℤ) → lanesAt row at ≡ vec (some (t, c)) → pairsAt row at ≡ padded 8 noPair t
+lanes-pairs row at t c e =
+    pairs-of row at (padded 8 noPair t) (length-padded noPair 8 t)
+    (sym (take-take 16 17 (drop at row) (omega arith)) ∙ ap (take 16) e ∙ take-at (low ++ high) (c ∷ []) 16 (omega (arith, length-append low high, length-padded (pos 0) 8 (map (λ p. p .0) t), length-padded (pos 0) 8 (map negℤ (map (λ p. p .1) t))))
+    ∙ (λ d. sym (map-padded (λ p. p .0) 8 noPair t) d ++ (ap (padded 8 (pos 0)) (map-map negℤ (λ p. p .1) t) ∙ sym (map-padded (λ p. negℤ (p .1)) 8 noPair t)) d))
+  where
+    low : List ℤ
+    low = padded 8 (pos 0) (map (λ p. p .0) t)
+
+    high : List ℤ
+    high = padded 8 (pos 0) (map negℤ (map (λ p. p .1) t))
 
 -- ---- one rule: its shares merged one after the other
 abbrev joins : Pair → List ℤ → Pair
 joins p [] = p
 joins p (z ∷ zs) = joins (merged p (z, z)) zs
 
+-- in whatever order
 pair-assoc : (p q r : Pair) → merged (merged p q) r ≡ merged p (merged q r)
 pair-assoc p q r = λ d. (min-assoc (p .0) (q .0) (r .0) d, max-assoc (p .1) (q .1) (r .1) d)
 
+-- one more in front
 joins-merged : (p q : Pair) (zs : List ℤ) → joins (merged p q) zs ≡ merged p (joins q zs)
 joins-merged p q [] = refl
 joins-merged p q (z ∷ zs) = ap (λ t. joins t zs) (pair-assoc p q (z, z)) ∙ joins-merged p (merged q (z, z)) zs
 
+-- together they are the span
 joins-span : (z : ℤ) (zs : List ℤ) → joins (z, z) zs ≡ span (z ∷ zs)
 joins-span z [] = refl
 joins-span z (y ∷ ys) = joins-merged (z, z) (y, y) ys ∙ ap (merged (z, z)) (joins-span y ys)
 
+-- ---- the lane of costs, which nobody reads
+-- the least of a number and some more
+abbrev leastOf : ℤ → List ℤ → ℤ
+leastOf z [] = z
+leastOf z (y ∷ ys) = leastOf (minZ z y) ys
+
+-- the least of some prices; of none it is zero
+abbrev leastPrice : List ℤ → ℤ
+leastPrice [] = pos 0
+leastPrice (z ∷ zs) = leastOf z zs
+
+-- of each slot from i on, added up
+abbrev prices : Campaign → ℕ → List ℕ → ℤ
+prices q i [] = pos 0
+prices q i (s ∷ ss) = leastPrice (map (q .price i) (stepsOf 8 s)) +ℤ prices q (suc i) ss
+
+-- they stay small
+least-within : (m : ℕ) (z : ℤ) (zs : List ℤ) → Within m z → Each (Within m) zs → Within m (leastOf z zs)
+least-within m z [] h k = h
+least-within m z (y ∷ ys) h k = least-within m (minZ z y) ys (either (leZ z y) h (k .0)) (k .1)
+
+-- the least of small prices is small
+price-within : (m : ℕ) (zs : List ℤ) → Each (Within m) zs → Within m (leastPrice zs)
+price-within m [] h = record { size = omega arith }
+price-within m (z ∷ zs) h = least-within m z zs (h .0) (h .1)
+
 -- ---- all rules
+-- merged rule by rule
 merged-maps : (g h : Rule → Pair) (rs : List Rule) → mergedState (map g rs) (map h rs) ≡ map (λ r. merged (g r) (h r)) rs
 merged-maps g h [] = refl
 merged-maps g h (r ∷ rs) = ap (λ (t : State). merged (g r) (h r) ∷ t) (merged-maps g h rs)
 
-zeros-padded : {A : Type 0} (f : A → Pair) → ((x : A) → f x ≡ noPair) → (n : ℕ) (l : List A) → padded n noPair (map f l) ≡ replicate n noPair
-zeros-padded f e zero l = refl
-zeros-padded f e (suc n) [] = ap (λ (t : State). noPair ∷ t) (padded-none noPair n)
-zeros-padded f e (suc n) (x ∷ l) = λ d. e x d ∷ zeros-padded f e n l d
+-- the lows of a sum, rule by rule
+low-sums : (g h : Rule → Pair) (rs : List Rule) → sums (map (λ p. p .0) (map g rs)) (map (λ p. p .0) (map h rs)) ≡ map (λ p. p .0) (map (λ r. add (g r) (h r)) rs)
+low-sums g h [] = refl
+low-sums g h (r ∷ rs) = ap (λ (l : List ℤ). (g r .0 +ℤ h r .0) ∷ l) (low-sums g h rs)
 
-shifted-zeros : {A : Type 0} (f : A → ℤ) (l : List A) → shifted (map (λ x. noPair) l) (map f l) ≡ map (λ x. (f x, f x)) l
-shifted-zeros f [] = refl
-shifted-zeros f (x ∷ l) =
-    let z : pos 0 +ℤ f x ≡ f x = omega (zarith, sum (pos 0) (f x)) in
-    λ d. (z d, z d) ∷ shifted-zeros f l d
+-- the highs with their sign turned
+high-sums : (g h : Rule → Pair) (rs : List Rule)
+    → sums (map negℤ (map (λ p. p .1) (map g rs))) (map negℤ (map (λ p. p .1) (map h rs))) ≡ map negℤ (map (λ p. p .1) (map (λ r. add (g r) (h r)) rs))
+high-sums g h [] = refl
+high-sums g h (r ∷ rs) = λ d. sym (neg-sum (g r .1) (h r .1)) d ∷ high-sums g h rs d
 
-module _ (q : Campaign) (small : Small q) (i : ℕ) where
-  -- a step's shares stand first in its lanes
-  pub shares-at : (v : ℕ) → v < 8 → take 8 (drop (v * 17) (slotVec q i)) ≡ padded 8 (pos 0) (map (λ r. r .share i v) (q .rules))
-  shares-at v h =
-      let all = drop (v * 17) (slotVec q i) in
-      sym (take-take 8 17 all (omega arith)) ∙ ap (take 8) (slot-at q small i v h)
-      ∙ ap (take 8) (append-assoc low high (q .price i v ∷ []))
-      ∙ take-at low (high ++ (q .price i v ∷ [])) 8 (length-padded (pos 0) 8 (map (λ r. r .share i v) (q .rules)))
-    where
-      low : List ℤ
-      low = padded 8 (pos 0) (map (λ r. r .share i v) (q .rules))
+-- lanes add up as the pairs and the costs do
+vec-sums : (g h : Rule → Pair) (c d : ℤ) (rs : List Rule) → sums (vec (some (map g rs, c))) (vec (some (map h rs, d))) ≡ vec (some (map (λ r. add (g r) (h r)) rs, c +ℤ d))
+vec-sums g h c d rs =
+    let s = map g rs in
+    let t = map h rs in
+    let long : length s ≡ length t = length-map rs g ∙ sym (length-map rs h) in
+    zipped-block _+ℤ_ (pos 0) (pos 0) (map (λ p. p .0) s) (map (λ p. p .0) t) (map negℤ (map (λ p. p .1) s)) (map negℤ (map (λ p. p .1) t)) c d
+    (length-lows s ∙ long ∙ sym (length-lows t)) (length-highs s ∙ long ∙ sym (length-highs t))
+    ∙ rw (low-sums g h rs, high-sums g h rs)
 
-      high : List ℤ
-      high = padded 8 (pos 0) (map negℤ (map (λ r. r .share i v) (q .rules)))
+-- the steps of a set are below 8
+low-steps : (s : ℕ) → Each (λ v. v < 8) (stepsOf 8 s)
+low-steps s = each-keep (λ v. v < 8) (bit s) (from 0 8) (each-from (λ v. v < 8) 0 8 (λ v b. b))
 
-  step-at : (v : ℕ) → v < 8 → stepPairs (slotVec q i) v ≡ padded 8 noPair (map (λ r. (r .share i v, r .share i v)) (q .rules))
-  step-at v h =
-      ap (shifted noPairs) (shares-at v h)
-      ∙ ap (λ t. shifted t (padded 8 (pos 0) (map (λ r. r .share i v) (q .rules)))) (sym (zeros-padded (λ r. noPair) (λ r. refl) 8 (q .rules)))
-      ∙ shifted-padded 8 (map (λ r. noPair) (q .rules)) (map (λ r. r .share i v) (q .rules)) (length-map (q .rules) (λ r. r .share i v) ∙ sym (length-map (q .rules) (λ r. noPair)))
-      ∙ ap (padded 8 noPair) (shifted-zeros (λ r. r .share i v) (q .rules))
-
-  span-more : (g : Rule → Pair) (vs : List ℕ) → Each (λ v. v < 8) vs
-      → spanMore (slotVec q i) (padded 8 noPair (map g (q .rules))) vs ≡ padded 8 noPair (map (λ r. joins (g r) (map (r .share i) vs)) (q .rules))
-  span-more g [] h = refl
-  span-more g (v ∷ vs) h =
-      let f : Rule → Pair = λ r. (r .share i v, r .share i v) in
-      ap (λ t. spanMore (slotVec q i) (mergedState (padded 8 noPair (map g (q .rules))) t) vs) (step-at v (h .0))
-      ∙ ap (λ t. spanMore (slotVec q i) t vs) (merged-padded 8 (map g (q .rules)) (map f (q .rules)) (length-map (q .rules) g ∙ sym (length-map (q .rules) f)) ∙ ap (padded 8 noPair) (merged-maps g f (q .rules)))
-      ∙ span-more (λ r. merged (g r) (f r)) vs (h .1)
-
-  -- of every rule
-  span-rules : (vs : List ℕ) → Each (λ v. v < 8) vs → spanOf (slotVec q i) vs ≡ padded 8 noPair (map (λ r. span (map (r .share i) vs)) (q .rules))
-  span-rules [] h = sym (zeros-padded (λ r. noPair) (λ r. refl) 8 (q .rules))
-  span-rules (v ∷ vs) h =
-      ap (λ t. spanMore (slotVec q i) t vs) (step-at v (h .0))
-      ∙ span-more (λ r. (r .share i v, r .share i v)) vs (h .1)
-      ∙ ap (padded 8 noPair) (map-same (λ r. joins (r .share i v, r .share i v) (map (r .share i) vs)) (λ r. span (map (r .share i) (v ∷ vs))) (q .rules) (λ r b. joins-span (r .share i v) (map (r .share i) vs)))
-
-  added-maps : (g h : Rule → Pair) (rs : List Rule) → added (map g rs) (map h rs) ≡ map (λ r. (g r .0 +ℤ h r .0, g r .1 +ℤ h r .1)) rs
-  added-maps g h [] = refl
-  added-maps g h (r ∷ rs) = ap (λ (t : State). (g r .0 +ℤ h r .0, g r .1 +ℤ h r .1) ∷ t) (added-maps g h rs)
-
-  -- a slot's span and the reach behind it are the reach
-  pub reach-step : (s : ℕ) (ss : List ℕ) → added (spanOf (slotVec q i) (stepsOf 8 s)) (padded 8 noPair (reaches q (suc i) ss)) ≡ padded 8 noPair (reaches q i (s ∷ ss))
-  reach-step s ss =
-      let g : Rule → Pair = λ r. span (map (r .share i) (stepsOf 8 s)) in
-      let h : Rule → Pair = λ r. reach (q .steps) r (suc i) ss in
-      let low : Each (λ v. v < 8) (stepsOf 8 s) = each-keep (λ v. v < 8) (bit s) (from 0 8) (each-from (λ v. v < 8) 0 8 (λ v b. b)) in
-      ap (λ t. added t (padded 8 noPair (reaches q (suc i) ss))) (span-rules (stepsOf 8 s) low)
-      ∙ added-padded 8 (map g (q .rules)) (map h (q .rules)) (length-map (q .rules) g ∙ sym (length-map (q .rules) h))
-      ∙ ap (padded 8 noPair) (added-maps g h (q .rules))
-      ∙ ap (λ k. padded 8 noPair (map (λ r. (span (map (r .share i) (stepsOf k s)) .0 +ℤ h r .0, span (map (r .share i) (stepsOf k s)) .1 +ℤ h r .1)) (q .rules))) (sym (small .steps))
-
--- ---- shares, spans and reaches are small
+-- ---- spans and reaches are small
+-- the span of small numbers
 span-within : (m : ℕ) (zs : List ℤ) → Each (Within m) zs → Within m (span zs .0) × Within m (span zs .1)
 span-within m [] h = (record { size = omega arith }, record { size = omega arith })
 span-within m (z ∷ []) h = (h .0, h .0)
@@ -122,108 +139,148 @@ span-within m (z ∷ y ∷ ys) h =
     let rest = span-within m (y ∷ ys) (h .1) in
     (either (leZ z (span (y ∷ ys) .0)) (h .0) (rest .0), either (leZ z (span (y ∷ ys) .1)) (rest .1) (h .0))
 
--- the row of a slot, its spans
-module _ (q : Campaign) (small : Small q) (i : ℕ) where
-  pub shares-small : Shares (slotVec q i)
-  shares-small =
-      record {
-        long = slot-vec q small i .long;
-        small = λ v h.
-            rw (shares-at q small i v h)
-            (each-padded (Within 10000) 8 (pos 0) (map (λ r. r .share i v) (q .rules)) (record { size = omega arith })
-            (each-map (λ r. (i v : ℕ) → v < 8 → Within 7000 (r .share i v)) (Within 10000) (λ r. r .share i v) (λ r f. widen tt (f i v h)) (q .rules) (small .shares)));
-      }
-
-  pub span-inside : (s : ℕ) → Inside 200000 (spanOf (slotVec q i) (stepsOf 8 s))
-  span-inside s =
-      let low : Each (λ v. v < 8) (stepsOf 8 s) = each-keep (λ v. v < 8) (bit s) (from 0 8) (each-from (λ v. v < 8) 0 8 (λ v b. b)) in
-      let one : (r : Rule) → ((i v : ℕ) → v < 8 → Within 7000 (r .share i v)) → Within 7000 (span (map (r .share i) (stepsOf 8 s)) .0) × Within 7000 (span (map (r .share i) (stepsOf 8 s)) .1) = λ r f. span-within 7000 (map (r .share i) (stepsOf 8 s)) (each-map (λ v. v < 8) (Within 7000) (r .share i) (f i) (stepsOf 8 s) low) in
-      let spans = map (λ r. span (map (r .share i) (stepsOf 8 s))) (q .rules) in
-      rw (span-rules q small i (stepsOf 8 s) low)
-      (inside-padded 200000 8 spans (inside-more 7000 200000 (omega arith) spans (each-map (λ r. (i v : ℕ) → v < 8 → Within 7000 (r .share i v)) (λ p. Within 7000 (p .0) × Within 7000 (p .1)) (λ r. span (map (r .share i) (stepsOf 8 s))) one (q .rules) (small .shares))))
-
-rule-within : (r : Rule) → ((i v : ℕ) → v < 8 → Within 7000 (r .share i v)) → (i : ℕ) (ss : List ℕ) → Within (7000 * length ss) (reach 8 r i ss .0) × Within (7000 * length ss) (reach 8 r i ss .1)
+-- a rule's reach over some slots
+rule-within : (r : Rule) → ((i v : ℕ) → v < 8 → Within 7000 (r .share i v)) → (i : ℕ) (ss : List ℕ) → FitPair (length ss) (reach 8 r i ss)
 rule-within r f i [] = (record { size = omega arith }, record { size = omega arith })
 rule-within r f i (s ∷ ss) =
-    let steps : Each (λ v. v < 8) (stepsOf 8 s) = each-keep (λ v. v < 8) (bit s) (from 0 8) (each-from (λ v. v < 8) 0 8 (λ v b. b)) in
-    let here = span-within 7000 (map (r .share i) (stepsOf 8 s)) (each-map (λ v. v < 8) (Within 7000) (r .share i) (f i) (stepsOf 8 s) steps) in
+    let here = span-within 7000 (map (r .share i) (stepsOf 8 s)) (each-map (λ v. v < 8) (Within 7000) (r .share i) (f i) (stepsOf 8 s) (low-steps s)) in
     let rest = rule-within r f (suc i) ss in
     let wide : 7000 + 7000 * length ss ≤ 7000 * suc (length ss) = omega arith in
     (larger wide (sum-within (here .0) (rest .0)), larger wide (sum-within (here .1) (rest .1)))
 
-pub reaches-inside : (q : Campaign) → Small q → (i : ℕ) (ss : List ℕ) → length ss ≤ 24 → Inside 200000 (padded 8 noPair (reaches q i ss))
-reaches-inside q small i ss h =
-    inside-padded 200000 8 (reaches q i ss)
-    (inside-more (7000 * length ss) 200000 (omega arith) (reaches q i ss)
-    (ap-steps (each-map (λ r. (i v : ℕ) → v < 8 → Within 7000 (r .share i v)) (λ p. Within (7000 * length ss) (p .0) × Within (7000 * length ss) (p .1)) (λ r. reach 8 r i ss) (λ r f. rule-within r f i ss) (q .rules) (small .shares))))
-  where
-    ap-steps : Inside (7000 * length ss) (map (λ r. reach 8 r i ss) (q .rules)) → Inside (7000 * length ss) (reaches q i ss)
-    ap-steps x = rw (small .steps) x
+-- ---- the numbers of slot i
+-- a step's shares and price
+abbrev pub stepOf : Campaign → ℕ → ℕ → State × ℤ
+stepOf q i v = (map (shareOf i v) (q .rules), q .price i v)
+
+-- the spans over some steps, and their least price
+abbrev spansOf : Campaign → ℕ → List ℕ → State × ℤ
+spansOf q i vs = (map (λ r. span (map (r .share i) vs)) (q .rules), leastPrice (map (q .price i) vs))
+
+-- the reach from slot i on, as lanes
+abbrev pub reachVec : Campaign → ℕ → List ℕ → List ℤ
+reachVec q i ss = vec (some (reaches q i ss, prices q i ss))
+
+module _ (q : Campaign) (small : Small q) where
+  module _ (i : ℕ) where
+    -- a step's lanes have each rule's share
+    pub step-lanes : (v : ℕ) → v < 8 → lanesAt (slotVec q i) (v * 17) ≡ vec (some (stepOf q i v))
+    step-lanes v h =
+        slot-at q small i v h
+        ∙ (λ d. lanesOf (pos 0) (sym (map-map (λ p. p .0) (shareOf i v) (q .rules)) d) (sym (map-map (λ p. p .1) (shareOf i v) (q .rules)) d) (q .price i v))
+
+    -- small enough for lanes
+    step-fit : (v : ℕ) → v < 8 → FitSome q 1 (stepOf q i v)
+    step-fit v h = record {
+      long = length-map (q .rules) (shareOf i v);
+      pairs = each-map (λ r. (i v : ℕ) → v < 8 → Within 7000 (r .share i v)) (FitPair 1) (shareOf i v) (λ r f. (f i v h, f i v h)) (q .rules) (small .shares);
+      cost = small .prices i v h;
+    }
+
+    -- some steps more
+    least-more : (g : Rule → Pair) (c : ℤ) (vs : List ℕ) → Each (λ v. v < 8) vs → FitSome q 1 (map g (q .rules), c)
+        → leastMore (slotVec q i) (vec (some (map g (q .rules), c))) vs ≡ vec (some (map (λ r. joins (g r) (map (r .share i) vs)) (q .rules), leastOf c (map (q .price i) vs)))
+    least-more g c [] h f = refl
+    least-more g c (v ∷ vs) h f =
+        let d = q .price i v in
+        let both = merged-maps g (shareOf i v) (q .rules) in
+        ap (λ t. leastMore (slotVec q i) (leasts (vec (some (map g (q .rules), c))) t) vs) (step-lanes v (h .0))
+        ∙ ap (λ t. leastMore (slotVec q i) t vs) (leasts-meet q 1 (omega arith) (some (map g (q .rules), c)) (some (stepOf q i v)) f (step-fit v (h .0)))
+        ∙ ap (λ t. leastMore (slotVec q i) (vec (some (t, minZ c d))) vs) both
+        ∙ least-more (λ r. merged (g r) (shareOf i v r)) (minZ c d) vs (h .1) (subst (λ t. FitSome q 1 (t, minZ c d)) both (meet-fit q 1 (some (map g (q .rules), c)) (some (stepOf q i v)) f (step-fit v (h .0))))
+
+    -- the least over some steps has each rule's span
+    span-lanes : (vs : List ℕ) → Each (λ v. v < 8) vs → leastOver (slotVec q i) vs ≡ vec (some (spansOf q i vs))
+    span-lanes [] h = sym (zeros-vec q)
+    span-lanes (v ∷ vs) h =
+        ap (λ t. leastMore (slotVec q i) (leasts nowhere t) vs) (step-lanes v (h .0))
+        ∙ ap (λ t. leastMore (slotVec q i) t vs) (leasts-meet q 1 (omega arith) none (some (stepOf q i v)) tt (step-fit v (h .0)))
+        ∙ least-more (shareOf i v) (q .price i v) vs (h .1) (step-fit v (h .0))
+        ∙ ap (λ t. vec (some (t, leastOf (q .price i v) (map (q .price i) vs)))) (map-same (λ r. joins (shareOf i v r) (map (r .share i) vs)) (λ r. span (map (r .share i) (v ∷ vs))) (q .rules) (λ r b. joins-span (r .share i v) (map (r .share i) vs)))
+
+    -- small enough for lanes
+    span-fit : (vs : List ℕ) → Each (λ v. v < 8) vs → FitSome q 1 (spansOf q i vs)
+    span-fit vs h = record {
+      long = length-map (q .rules) (λ r. span (map (r .share i) vs));
+      pairs = each-map (λ r. (i v : ℕ) → v < 8 → Within 7000 (r .share i v)) (FitPair 1) (λ r. span (map (r .share i) vs)) (λ r f. span-within 7000 (map (r .share i) vs) (each-map (λ v. v < 8) (Within 7000) (r .share i) (f i) vs h)) (q .rules) (small .shares);
+      cost = price-within 70000 (map (q .price i) vs) (each-map (λ v. v < 8) (Within 70000) (q .price i) (small .prices i) vs h);
+    }
+
+    -- small enough to be summed
+    pub span-small : (s : ℕ) → Each (Within 10000000) (leastOver (slotVec q i) (stepsOf 8 s))
+    span-small s =
+        let vs = stepsOf 8 s in
+        rw (span-lanes vs (low-steps s)) (each-more (Within 70000) (Within 10000000) (λ z w. widen tt w) (vec (some (spansOf q i vs))) (some-within q 1 (spansOf q i vs) (span-fit vs (low-steps s))))
+
+    -- a slot's span and the reach behind it are the reach
+    pub reach-step : (s : ℕ) (ss : List ℕ) → sums (leastOver (slotVec q i) (stepsOf 8 s)) (reachVec q (suc i) ss) ≡ reachVec q i (s ∷ ss)
+    reach-step s ss =
+        let vs = stepsOf 8 s in
+        let h : Rule → Pair = λ r. reach (q .steps) r (suc i) ss in
+        ap (λ t. sums t (reachVec q (suc i) ss)) (span-lanes vs (low-steps s))
+        ∙ vec-sums (λ r. span (map (r .share i) vs)) h (leastPrice (map (q .price i) vs)) (prices q (suc i) ss) (q .rules)
+        ∙ ap (λ k. vec (some (map (λ r. add (span (map (r .share i) (stepsOf k s))) (h r)) (q .rules), prices q i (s ∷ ss)))) (sym (small .steps))
+
+  -- the costs of a reach
+  prices-within : (i : ℕ) (ss : List ℕ) → Within (70000 * length ss) (prices q i ss)
+  prices-within i [] = record { size = omega arith }
+  prices-within i (s ∷ ss) = larger (omega arith) (sum-within (span-fit i (stepsOf 8 s) (low-steps s) .cost) (prices-within (suc i) ss))
+
+  -- the numbers of a reach
+  reaches-fit : (i : ℕ) (ss : List ℕ) → FitSome q (length ss) (reaches q i ss, prices q i ss)
+  reaches-fit i ss = record {
+    long = length-map (q .rules) (λ r. reach (q .steps) r i ss);
+    pairs = rw (small .steps) (each-map (λ r. (i v : ℕ) → v < 8 → Within 7000 (r .share i v)) (FitPair (length ss)) (λ r. reach 8 r i ss) (λ r f. rule-within r f i ss) (q .rules) (small .shares));
+    cost = prices-within i ss;
+  }
+
+  -- small enough to be summed
+  pub reach-small : (i : ℕ) (ss : List ℕ) → length ss ≤ 24 → Each (Within 10000000) (reachVec q i ss)
+  reach-small i ss h = each-more (Within (70000 * length ss)) (Within 10000000) (λ z w. larger (omega arith) w) (reachVec q i ss) (some-within q (length ss) (reaches q i ss, prices q i ss) (reaches-fit i ss))
+
+  -- as eight pairs
+  reaches-inside : (i : ℕ) (ss : List ℕ) → length ss ≤ 24 → Inside 200000 (padded 8 noPair (reaches q i ss))
+  reaches-inside i ss h = inside-padded 200000 8 (reaches q i ss) (inside-more (7000 * length ss) 200000 (omega arith) (reaches q i ss) (reaches-fit i ss .pairs))
 
 -- ---- the table, from a layer on
 pub record Behind (q : Campaign) (left : ℕ) (table : List ℤ) : Type 0 where
-  pub long : length table ≡ 400
-  pub is : (i : ℕ) → left ≤ i → i ≤ slots q → paired (take 16 (drop (i * 16) table)) ≡ padded 8 noPair (reaches q i (drop i (q .sets)))
-
-drop-zeros : (k n : ℕ) → drop {A = ℤ} k (replicate (k + n) (pos 0)) ≡ replicate n (pos 0)
-drop-zeros zero n = rw (zero-add n) refl
-drop-zeros (suc k) n = let o : suc k + n ≡ suc (k + n) = omega arith in rw o (drop-zeros k n)
-
-take-zeros : (k n : ℕ) → take {A = ℤ} k (replicate (k + n) (pos 0)) ≡ replicate k (pos 0)
-take-zeros zero n = refl
-take-zeros (suc k) n = let o : suc k + n ≡ suc (k + n) = omega arith in rw o (ap (λ (l : List ℤ). pos 0 ∷ l) (take-zeros k n))
+  pub long : length table ≡ 425
+  pub is : (i : ℕ) → left ≤ i → i ≤ slots q → lanesAt table (i * 17) ≡ reachVec q i (drop i (q .sets))
 
 module _ (q : Campaign) (small : Small q) where
-  -- sixteen zeros wherever they are taken from a table of zeros
-  zeros-there : (t : List ℤ) (i : ℕ) → t ≡ replicate 400 (pos 0) → i ≤ 24 → paired (take 16 (drop (i * 16) t)) ≡ noPairs
-  zeros-there t i e b =
-      let o : 400 ≡ i * 16 + (16 + (384 - i * 16)) = omega arith in
-      ap (λ l. paired (take 16 (drop (i * 16) l))) (e ∙ ap (λ k. replicate k (pos 0)) o)
-      ∙ ap (λ l. paired (take 16 l)) (drop-zeros (i * 16) (16 + (384 - i * 16)))
-      ∙ ap paired (take-zeros 16 (384 - i * 16))
-
   -- behind the last slot nothing can be added
-  pub behind-start : (t : List ℤ) → t ≡ replicate 400 (pos 0) → Behind q (slots q) t
-  behind-start t e =
-      record {
-        long = ap length e;
-        is = λ i a b.
-            zeros-there t i e (omega (arith, small .slots))
-            ∙ sym (ap (λ l. padded 8 noPair (reaches q i l)) (drop-of-length-le (q .sets) a) ∙ zeros-padded (λ r. noPair) (λ r. refl) 8 (q .rules));
-      }
+  pub behind-start : (table table′ : List ℤ) → length table ≡ 425 → table′ ≡ paste table (slots q * 17) (replicate 17 (pos 0)) 17 → Behind q (slots q) table′
+  behind-start table table′ l e = record {
+    long = ap length e ∙ length-paste table (slots q * 17) (replicate 17 (pos 0)) 17 (omega (arith, l, small .slots)) (omega arith) ∙ l;
+    is = λ i a b. let k : i ≡ slots q = omega arith in ap (λ j. lanesAt table′ (j * 17)) k ∙ ap (λ t. lanesAt t (slots q * 17)) e ∙ lanes-pasted table (slots q * 17) (replicate 17 (pos 0)) (omega (arith, l, small .slots)) refl ∙ sym (zeros-vec q) ∙ ap (reachVec q i) (sym (drop-of-length-le (q .sets) a));
+  }
 
   -- a layer more
-  pub behind-more : (i : ℕ) (table table′ : List ℤ) (t : State) → Behind q (i + 1) table → i < slots q → t ≡ padded 8 noPair (reaches q i (drop i (q .sets)))
-      → table′ ≡ paste table (i * 16) (unpaired t) 16 → Behind q i table′
-  behind-more i table table′ t p h e f =
-      record {
-        long = ap length f ∙ length-paste table (i * 16) (unpaired t) 16 (omega (arith, p .long, small .slots)) (omega (arith, wide)) ∙ p .long;
-        is = λ j a b. go j a b (decLt i j);
-      }
+  pub behind-more : (i : ℕ) (table table′ x : List ℤ) → Behind q (i + 1) table → i < slots q → x ≡ reachVec q i (drop i (q .sets)) → table′ ≡ paste table (i * 17) x 17 → Behind q i table′
+  behind-more i table table′ x p h e f = record {
+    long = ap length f ∙ length-paste table (i * 17) x 17 (omega (arith, p .long, small .slots)) (omega (arith, wide)) ∙ p .long;
+    is = λ j a b. go j a b (decLt i j);
+  }
     where
-      wide : length (unpaired t) ≡ 16
-      wide = unpaired-length t ∙ ap (λ n. 2 * n) (ap length e ∙ length-padded noPair 8 (reaches q i (drop i (q .sets))))
+      wide : length x ≡ 17
+      wide = ap length e ∙ length-vec (some (reaches q i (drop i (q .sets)), prices q i (drop i (q .sets))))
 
-      other : (j : ℕ) → i < j → drop (j * 16) table′ ≡ drop (j * 16) table
+      other : (j : ℕ) → i < j → drop (j * 17) table′ ≡ drop (j * 17) table
       other j l =
-          let o : j * 16 ≡ i * 16 + 16 + (j * 16 - (i * 16 + 16)) = omega arith in
+          let o : j * 17 ≡ i * 17 + 17 + (j * 17 - (i * 17 + 17)) = omega arith in
           ap (λ k. drop k table′) o
-          ∙ sym (drop-drop (j * 16 - (i * 16 + 16)) (i * 16 + 16) table′)
-          ∙ ap (drop (j * 16 - (i * 16 + 16))) (ap (drop (i * 16 + 16)) f ∙ drop-paste table (i * 16) (unpaired t) 16 (omega (arith, p .long, small .slots)) (omega (arith, wide)))
-          ∙ drop-drop (j * 16 - (i * 16 + 16)) (i * 16 + 16) table
+          ∙ sym (drop-drop (j * 17 - (i * 17 + 17)) (i * 17 + 17) table′)
+          ∙ ap (drop (j * 17 - (i * 17 + 17))) (ap (drop (i * 17 + 17)) f ∙ drop-paste table (i * 17) x 17 (omega (arith, p .long, small .slots)) (omega (arith, wide)))
+          ∙ drop-drop (j * 17 - (i * 17 + 17)) (i * 17 + 17) table
           ∙ ap (λ k. drop k table) (sym o)
 
-      here : paired (take 16 (drop (i * 16) table′)) ≡ padded 8 noPair (reaches q i (drop i (q .sets)))
-      here = ap (λ l. paired (take 16 (drop (i * 16) l))) f ∙ ap paired (part-pasted table (i * 16) (unpaired t) 16 (omega (arith, p .long, small .slots)) wide) ∙ paired-unpaired t ∙ e
+      go : (j : ℕ) → i ≤ j → j ≤ slots q → Dec (i < j) → lanesAt table′ (j * 17) ≡ reachVec q j (drop j (q .sets))
+      go j a b (yes l) = ap (take 17) (other j l) ∙ p .is j (omega arith) b
+      go j a b (no l) = let k : j ≡ i = omega arith in rw k (ap (λ l. lanesAt l (i * 17)) f ∙ lanes-pasted table (i * 17) x (omega (arith, p .long, small .slots)) wide ∙ e)
 
-      go : (j : ℕ) → i ≤ j → j ≤ slots q → Dec (i < j) → paired (take 16 (drop (j * 16) table′)) ≡ padded 8 noPair (reaches q j (drop j (q .sets)))
-      go j a b (yes l) = ap (λ l. paired (take 16 l)) (other j l) ∙ p .is j (omega arith) b
-      go j a b (no l) = let k : j ≡ i = omega arith in rw k here
-
+  -- the whole table
   pub behind-all : (table : List ℤ) → Behind q 0 table → Reached q table
-  behind-all table p =
-      record {
-        long = p .long;
-        is = λ i b. p .is i (omega arith) b;
-        small = λ i b. rw (p .is i (omega arith) b) (reaches-inside q small i (drop i (q .sets)) (omega (arith, length-drop i (q .sets), small .slots)));
-      }
+  behind-all table p = record { long = p .long; is = pairs; small = λ i b. rw (pairs i b) (reaches-inside q small i (drop i (q .sets)) (omega (arith, length-drop i (q .sets), small .slots))) }
+    where
+      pairs : (i : ℕ) → i ≤ slots q → pairsAt table (i * 17) ≡ padded 8 noPair (reaches q i (drop i (q .sets)))
+      pairs i b = let ss = drop i (q .sets) in lanes-pairs table (i * 17) (reaches q i ss) (prices q i ss) (p .is i (omega arith) b)

@@ -1,60 +1,60 @@
 // The reach: for each rule and layer, the least and greatest total that the slots from there on can add.
 ghost use mathlib.Core.Path.{_≡_};
+ghost use lib.ListN.{length};
 ghost use Rattle.meaning.specs.Plan.{stepsOf};
 ghost use Rattle.meaning.specs.Problem.{stepCount, version1};
 ghost use Rattle.problem.specs.Held.{faultIn, campaignOf};
-ghost use Rattle.state.specs.Pairs.{pairs};
-ghost use Rattle.reach.specs.Spans.{Shares, joinedTo, spanOf, Reached};
+ghost use Rattle.reach.specs.Spans.{leastOver, Reached};
+use lanes::FAR;
+use lanes::LANES;
 use problem::Problem;
-use state::Pair;
-use state::State;
 
-// The shares of one step more: merged with those before it, if there are some.
-fn joined(s: State, some: bool, t: State) -> State
-    ensures { λ r. ⌜ pairs r ≡ joinedTo (pairs s) some (pairs t) ⌝ }
+// Lane by lane the least over the steps of a set: each rule's least share, and its greatest with the sign turned; zero where it has none of the steps.
+fn span(row: &[i32], set: u16) -> [i32; 17]
+    requires { ⌜ length (now row) ≡ 136 ⌝ }
+    ensures { λ r. ⌜ r ≡ leastOver (now (row .entry)) (stepsOf stepCount set) ⌝ }
 {
-    if some { state::merged(s, t) } else { t }
-}
-
-// The least and greatest share of each rule over the steps of a set; zero where it has none.
-fn span(row: &[i32], set: u16) -> State
-    requires { ⌜ Shares (now row) ⌝ }
-    ensures { λ r. ⌜ pairs r ≡ spanOf (now (row .entry)) (stepsOf stepCount set) ⌝ }
-{
-    let zero = Pair { lo: 0, hi: 0 };
-    let none = State { at: [zero; 8] };
-    let mut s = none;
-    let mut some = false;
+    if set % 256 == 0 {
+        return [0; 17];
+    }
+    let mut s = [FAR; 17];
     let mut v: usize = 0;
     while v < 8 {
         if problem::allows(set, v) {
-            let t = state::child(none, row, v * 17);
-            let both = joined(s, some, t);
+            let both = lanes::least_of(s, lanes::lanes_at(row, v * LANES));
             s = both;
-            some = true;
         }
         v += 1;
     }
     s
 }
 
-// The reach of every layer, 16 numbers to a layer; layer n, behind the last slot, has zeros.
-pub fn reaches(p: Problem) -> [i32; 400]
-    requires { ⌜ faultIn version1 p ≡ 0 ⌝ }
-    ensures { λ r. ⌜ Reached (campaignOf p) r ⌝ }
+// The reach of every layer into a table, 17 lanes to a layer; layer n, behind the last slot, has zeros.
+pub fn reaches(p: Problem, table: &mut [i32])
+    requires { ⌜ (faultIn version1 p ≡ 0) × (length (now table) ≡ 425) ⌝ }
+    ensures { λ r. ⌜ Reached (campaignOf p) (now (table .exit)) ⌝ }
 {
     let m = p.m;
-    let mut table = [0i32; 400];
+    let mut row = [0i32; 136];
     let mut left = p.n;
+    lanes::put_lanes(table, left * LANES, [0; 17]);
     while 0 < left {
         let i = left - 1;
         let set = p.sets[i];
         let weight = p.weights[i];
-        let row = slot::slot_row(m, i, weight, &p.kinds, &p.values, &p.slots, &p.coefs);
+        slot::slot_row(
+            m,
+            i,
+            weight,
+            &p.kinds,
+            &p.values,
+            &p.slots,
+            &p.coefs,
+            &mut row,
+        );
         let here = span(&row, set);
-        let rest = state::taken(&table, left * 16);
-        state::laid(&mut table, i * 16, state::plus(here, rest));
+        let rest = lanes::lanes_at(table, left * LANES);
+        lanes::put_lanes(table, i * LANES, lanes::sum_of(here, rest));
         left = i;
     }
-    table
 }

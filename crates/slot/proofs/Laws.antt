@@ -1,24 +1,24 @@
 -- How do the parts, the lanes of a step and the row of a slot fill up, and what is a lane as an i32?
 use mathlib.Core.Path.{_≡_, refl, sym, ap, _∙_}
-use mathlib.Core.List.{List, [], _∷_, _++_, map}
+use mathlib.Core.List.{List, [], _∷_, _++_, map, append-assoc, append-nil}
 use mathlib.Core.Bool.{Bool, true, false, cond}
-use Prim.Native.Nat.{ℕ, zero, suc, _+_, _*_, _/_, _%_, _^_, _<_}
+use Prim.Native.Nat.{ℕ, zero, suc, _+_, _*_, _/_, _%_, _^_, _-_, _≤_, _<_}
 use native.Mathlib.Nat.{zero-add}
-use native.Mathlib.Numerals.{add-one}
 use native.Mathlib.Omega.{arith}
+use native.Mathlib.Decide.{decLt}
 use lib.Dec.{eqb}
 use borrow.Author.Tests.{eqb-true, eq-eqb, ne-eqb}
-use lib.ListN.{length, getD, set, take, length-map, length-append, length-take}
-use lib.Seq.{paste, take-suc, take-all, set-append-left, set-append-seam}
+use lib.ListN.{length, getD, set, take, drop, drop-of-length-le, length-drop, length-map, length-append, length-set, List·getD-append}
+use lib.Seq.{take-append-seam, drop-append-seam, drop-drop, getD-set-same, getD-set-other, getD-append-seam, getD-append-add, ext-getD}
 use lib.IntN.{ℤ, pos, negℤ, _+ℤ_, _-ℤ_, _*ℤ_}
 use mir.Syntax.{w32}
 use mir.Val.{SFits, toZ}
 use mir.Facts.{toZ-pos}
 use Rattle.laws.specs.Z.{Within, zarith, parts, dif, neg, widen, sum-within, mul-within, fits32, sum32, back, back-is}
 use Rattle.laws.specs.Lists.{gather, from, padded}
-use Rattle.laws.proofs.Lists.{length-from, from-more}
+use Rattle.laws.proofs.Lists.{length-from, from-more, getD-map}
 use Rattle.laws.proofs.Each.{Each, each-map, each-from}
-use Rattle.laws.proofs.Filled.{padded-more, padded-paste, take-padded, length-padded, length-rows, gather-more, each-padded, padded-full}
+use Rattle.laws.proofs.Filled.{padded-more, length-padded, length-rows, gather-more, each-padded}
 use Rattle.problem.proofs.Shares.{times-is}
 use Rattle.slot.specs.Rows.{coefPart, valuePart, coefParts, valueParts, laneOf, lanesOf, stepLanes, CoefsRight}
 
@@ -76,47 +76,61 @@ entry-laid z n f r h =
     let more : map f (from 0 r) ++ f r ∷ [] ≡ map f (from 0 (r + 1)) = sym (ap (map f) (from-more 0 r) ∙ map-append f (from 0 r) ((0 + r) ∷ []) ∙ ap (λ k. map f (from 0 r) ++ f k ∷ []) (zero-add r)) in
     ap (λ k. set (padded n z (map f (from 0 r))) k (f r)) (sym long) ∙ padded-more z n (map f (from 0 r)) (f r) (omega arith) ∙ ap (padded n z) more
 
--- ---- the lanes of a step: the first r, and as many with their sign turned
-abbrev pub filled : List ℤ → ℕ → List ℤ
-filled ls r = padded 8 (pos 0) (take r ls) ++ padded 8 (pos 0) (map negℤ (take r ls)) ++ (pos 0 ∷ [])
+-- ---- the lanes of a step: the first r are laid, and as many with their sign turned
+pub record Filled (ls row : List ℤ) (r : ℕ) : Type 0 where
+  pub long : length row ≡ 17
+  pub low : (k : ℕ) → k < r → getD row k (pos 0) ≡ getD ls k (pos 0)
+  pub high : (k : ℕ) → k < r → getD row (8 + k) (pos 0) ≡ negℤ (getD ls k (pos 0))
 
-set-right : {A : Type 0} (xs ys : List A) (i : ℕ) (a : A) → set (xs ++ ys) (length xs + i) a ≡ xs ++ set ys i a
-set-right [] ys i a = rw (zero-add i) refl
-set-right (x ∷ xs) ys i a = let o : suc (length xs) + i ≡ suc (length xs + i) = omega arith in rw o (ap (λ l. x ∷ l) (set-right xs ys i a))
+pub filled-none : (ls row : List ℤ) → length row ≡ 17 → Filled ls row 0
+filled-none ls row e = record { long = e; low = λ k h. absurd (omega arith); high = λ k h. absurd (omega arith) }
 
--- one more in a half of eight
-half-more : (l : List ℤ) (r : ℕ) (x : ℤ) → length l ≡ r → r < 8 → set (padded 8 (pos 0) l) r x ≡ padded 8 (pos 0) (l ++ x ∷ [])
-half-more l r x e h = ap (λ k. set (padded 8 (pos 0) l) k x) (sym e) ∙ padded-more (pos 0) 8 l x (omega arith)
+pub filled-more : (ls row : List ℤ) (r : ℕ) → r < 8 → Filled ls row r → (x y : ℤ) → x ≡ getD ls r (pos 0) → y ≡ negℤ (getD ls r (pos 0)) → Filled ls (set (set row r x) (8 + r) y) (r + 1)
+filled-more ls row r b f x y e g = record {
+  long = length-set (set row r x) (8 + r) y ∙ length-set row r x ∙ f .long;
+  low = λ k h. getD-set-other (set row r x) (8 + r) k y (pos 0) (λ o. omega arith) ∙ elim (decLt k r) [
+    | yes a ↦ getD-set-other row r k x (pos 0) (λ o. omega arith) ∙ f .low k a
+    | no n ↦ let same : k ≡ r = omega arith in rw same (getD-set-same row r x (pos 0) (omega (arith, f .long)) ∙ e)
+  ];
+  high = λ k h. elim (decLt k r) [
+    | yes a ↦
+        getD-set-other (set row r x) (8 + r) (8 + k) y (pos 0) (λ o. omega arith)
+        ∙ getD-set-other row r (8 + k) x (pos 0) (λ o. omega arith)
+        ∙ f .high k a
+    | no n ↦ let same : k ≡ r = omega arith in rw same (getD-set-same (set row r x) (8 + r) y (pos 0) (omega (arith, f .long, length-set row r x)) ∙ g)
+  ];
+}
 
-module _ (ls : List ℤ) (long : length ls ≡ 8) where
-  pub filled-more : (r : ℕ) → r < 8 → set (set (filled ls r) r (getD ls r (pos 0))) (8 + r) (negℤ (getD ls r (pos 0))) ≡ filled ls (r + 1)
-  filled-more r h =
-      let x = getD ls r (pos 0) in
-      let low = take r ls in
-      let a = padded 8 (pos 0) low in
-      let b = padded 8 (pos 0) (map negℤ low) in
-      let z = pos 0 ∷ [] in
-      let wide : length a ≡ 8 = length-padded (pos 0) 8 low in
-      let wide′ : length b ≡ 8 = length-padded (pos 0) 8 (map negℤ low) in
-      let count : length low ≡ r = length-take r ls ∙ omega arith in
-      let more : take (r + 1) ls ≡ low ++ x ∷ [] = ap (λ k. take k ls) (add-one r) ∙ take-suc ls r (pos 0) (omega arith) in
-      let a′ = padded 8 (pos 0) (low ++ x ∷ []) in
-      let wide″ : length a′ ≡ 8 = length-padded (pos 0) 8 (low ++ x ∷ []) in
-      let first : set (a ++ b ++ z) r x ≡ a′ ++ b ++ z = set-append-left (a ++ b) z r x (omega (arith, length-append a b)) ∙ ap (λ l. l ++ z) (set-append-left a b r x (omega arith) ∙ ap (λ l. l ++ b) (half-more low r x count h)) in
-      let right : set (a′ ++ b) (8 + r) (negℤ x) ≡ a′ ++ padded 8 (pos 0) (map negℤ low ++ negℤ x ∷ []) = ap (λ k. set (a′ ++ b) (k + r) (negℤ x)) (sym wide″) ∙ set-right a′ b r (negℤ x) ∙ ap (λ l. a′ ++ l) (half-more (map negℤ low) r (negℤ x) (length-map low negℤ ∙ count) h) in
-      let second : set (a′ ++ b ++ z) (8 + r) (negℤ x) ≡ a′ ++ padded 8 (pos 0) (map negℤ low ++ negℤ x ∷ []) ++ z = set-append-left (a′ ++ b) z (8 + r) (negℤ x) (omega (arith, length-append a′ b)) ∙ ap (λ l. l ++ z) right in
-      ap (λ l. set l (8 + r) (negℤ x)) first ∙ second ∙ sym (ap (λ l. padded 8 (pos 0) l ++ padded 8 (pos 0) (map negℤ l) ++ z) more ∙ ap (λ l. a′ ++ padded 8 (pos 0) l ++ z) (map-append negℤ low (x ∷ [])))
-
-  pub filled-all : (z : ℤ) → set (filled ls 8) 16 z ≡ ls ++ map negℤ ls ++ (z ∷ [])
-  filled-all z =
-      let all : take 8 ls ≡ ls = take-all 8 ls (omega arith) in
-      let turned : padded 8 (pos 0) (map negℤ ls) ≡ map negℤ ls = padded-full 8 (pos 0) (map negℤ ls) (length-map ls negℤ ∙ long) in
-      let wide : length (ls ++ map negℤ ls) ≡ 16 = length-append ls (map negℤ ls) ∙ omega (arith, length-map ls negℤ) in
-      ap (λ l. set (padded 8 (pos 0) l ++ padded 8 (pos 0) (map negℤ l) ++ (pos 0 ∷ [])) 16 z) all
-      ∙ ap (λ l. set (l ++ padded 8 (pos 0) (map negℤ ls) ++ (pos 0 ∷ [])) 16 z) (padded-full 8 (pos 0) ls long)
-      ∙ ap (λ l. set (ls ++ l ++ (pos 0 ∷ [])) 16 z) turned
-      ∙ ap (λ k. set (ls ++ map negℤ ls ++ (pos 0 ∷ [])) k z) (sym wide)
-      ∙ set-append-seam (ls ++ map negℤ ls) (pos 0) [] z
+pub filled-all : (ls row : List ℤ) → length ls ≡ 8 → Filled ls row 8 → (z : ℤ) → set row 16 z ≡ ls ++ map negℤ ls ++ (z ∷ [])
+filled-all ls row e f z =
+    let wide : length (map negℤ ls) ≡ 8 = length-map ls negℤ ∙ e in
+    let both : length (ls ++ map negℤ ls) ≡ 16 = length-append ls (map negℤ ls) ∙ omega arith in
+    let all : length (ls ++ map negℤ ls ++ (z ∷ [])) ≡ 17 = length-append (ls ++ map negℤ ls) (z ∷ []) ∙ omega arith in
+    ext-getD (pos 0) (set row 16 z) (ls ++ map negℤ ls ++ (z ∷ [])) (length-set row 16 z ∙ f .long ∙ sym all) (λ k h. at wide both k (omega (arith, length-set row 16 z, f .long)))
+  where
+    at : length (map negℤ ls) ≡ 8 → length (ls ++ map negℤ ls) ≡ 16 → (k : ℕ) → k < 17 → getD (set row 16 z) k (pos 0) ≡ getD (ls ++ map negℤ ls ++ (z ∷ [])) k (pos 0)
+    at wide both k h = elim (decLt k 16) [
+      | yes a ↦
+          getD-set-other row 16 k z (pos 0) (λ o. omega arith)
+          ∙ elim (decLt k 8) [
+            | yes b ↦ f .low k b ∙ sym (List·getD-append ls (map negℤ ls) (pos 0) k (omega arith))
+            | no n ↦
+                let again : k ≡ 8 + (k - 8) = omega arith in
+                ap (λ j. getD row j (pos 0)) again
+                ∙ f .high (k - 8) (omega arith)
+                ∙ sym (getD-map negℤ ls (k - 8) (pos 0) (pos 0) (omega arith))
+                ∙ sym (getD-append-add ls (map negℤ ls) (k - 8) (pos 0))
+                ∙ ap (λ j. getD (ls ++ map negℤ ls) (j + (k - 8)) (pos 0)) e
+                ∙ sym (ap (λ j. getD (ls ++ map negℤ ls) j (pos 0)) again)
+          ]
+          ∙ sym (List·getD-append (ls ++ map negℤ ls) (z ∷ []) (pos 0) k (omega arith))
+      | no n ↦
+          let last : k ≡ 16 = omega arith in
+          rw last
+          (getD-set-same row 16 z (pos 0) (omega (arith, f .long))
+          ∙ sym (getD-append-seam (ls ++ map negℤ ls) z [] (pos 0))
+          ∙ ap (λ j. getD (ls ++ map negℤ ls ++ (z ∷ [])) j (pos 0)) both)
+    ]
 
 -- ---- the lanes by their parts
 pub lanes-long : (cs : List ℤ) (bs : List ℕ) (v : ℕ) → length cs ≡ length bs → length (lanesOf cs bs v) ≡ length cs
@@ -138,28 +152,29 @@ module _ (cs : List ℤ) (bs : List ℕ) (weight : ℤ) (wide : length cs ≡ 8)
       let long : length ls ≡ 8 = lanes-long cs bs v (omega arith) ∙ wide in
       length-append (ls ++ map negℤ ls) ((weight *ℤ pos v) ∷ []) ∙ omega (arith, length-append ls (map negℤ ls), length-map ls negℤ)
 
-  row-more : (v : ℕ) → v < 8
-      → paste (padded 136 (pos 0) (gather (stepLanes cs bs weight) (from 0 v))) (v * 17) (stepLanes cs bs weight v) 17 ≡ padded 136 (pos 0) (gather (stepLanes cs bs weight) (from 0 (v + 1)))
-  row-more v h =
+  steps-long : (v : ℕ) → length (gather (stepLanes cs bs weight) (from 0 v)) ≡ v * 17
+  steps-long v = length-rows (stepLanes cs bs weight) 17 step-long (from 0 v) ∙ ap (λ k. k * 17) (length-from 0 v)
+
+  -- the loop's turn: the part of step v is laid between those before it and what stands behind
+  pub laid-next : (d row x : List ℤ) (v k : ℕ) → k ≡ 17 → length d ≡ 136 → v < 8 → row ≡ gather (stepLanes cs bs weight) (from 0 v) ++ drop (v * 17) d → x ≡ stepLanes cs bs weight v
+      → take (v * 17) row ++ (x ++ drop k (drop (v * 17) row)) ≡ gather (stepLanes cs bs weight) (from 0 (v + 1)) ++ drop ((v + 1) * 17) d
+  laid-next d row x v k e l h is new =
       let f = stepLanes cs bs weight in
       let so = gather f (from 0 v) in
-      let count : length so ≡ v * 17 = length-rows f 17 step-long (from 0 v) ∙ ap (λ k. k * 17) (length-from 0 v) in
-      let more : gather f (from 0 (v + 1)) ≡ so ++ f v = ap (gather f) (from-more 0 v ∙ ap (λ k. from 0 v ++ k ∷ []) (zero-add v)) ∙ gather-more f (from 0 v) v in
-      ap (λ k. paste (padded 136 (pos 0) so) k (f v) 17) (sym count)
-      ∙ ap (λ k. paste (padded 136 (pos 0) so) (length so) (f v) k) (sym (step-long v))
-      ∙ padded-paste (pos 0) 136 so (f v) (omega (arith, step-long v))
-      ∙ ap (padded 136 (pos 0)) (sym more)
+      let count = steps-long v in
+      let more : gather f (from 0 (v + 1)) ≡ so ++ f v = ap (gather f) (from-more 0 v ∙ ap (λ j. from 0 v ++ j ∷ []) (zero-add v)) ∙ gather-more f (from 0 v) v in
+      let first : take (v * 17) row ≡ so = ap (take (v * 17)) is ∙ ap (λ j. take j (so ++ drop (v * 17) d)) (sym count) ∙ take-append-seam so (drop (v * 17) d) in
+      let rest : drop (v * 17) row ≡ drop (v * 17) d = ap (drop (v * 17)) is ∙ ap (λ j. drop j (so ++ drop (v * 17) d)) (sym count) ∙ drop-append-seam so (drop (v * 17) d) in
+      let place : v * 17 + 17 ≡ (v + 1) * 17 = omega arith in
+      let behind : drop k (drop (v * 17) row) ≡ drop ((v + 1) * 17) d =
+      ap (drop k) rest ∙ ap (λ j. drop j (drop (v * 17) d)) e ∙ drop-drop 17 (v * 17) d ∙ ap (λ j. drop j d) place in
+      (λ t. first t ++ (new t ++ behind t)) ∙ sym (append-assoc so (f v) (drop ((v + 1) * 17) d)) ∙ ap (λ r. r ++ drop ((v + 1) * 17) d) (sym more)
 
-  -- the loop's turn
-  pub laid-next : (row row′ x : List ℤ) (v : ℕ) → v < 8 → row ≡ padded 136 (pos 0) (gather (stepLanes cs bs weight) (from 0 v)) → x ≡ stepLanes cs bs weight v
-      → row′ ≡ paste row (v * 17) x 17 → row′ ≡ padded 136 (pos 0) (gather (stepLanes cs bs weight) (from 0 (v + 1)))
-  laid-next row row′ x v h e f g = g ∙ (λ d. paste (e d) (v * 17) (f d) 17) ∙ row-more v h
+  pub row-long : (d : List ℤ) → length d ≡ 136 → (v : ℕ) → v ≤ 8 → length (gather (stepLanes cs bs weight) (from 0 v) ++ drop (v * 17) d) ≡ 136
+  row-long d l v h = length-append (gather (stepLanes cs bs weight) (from 0 v)) (drop (v * 17) d) ∙ omega (arith, steps-long v, length-drop (v * 17) d)
 
-  pub row-all : padded 136 (pos 0) (gather (stepLanes cs bs weight) (from 0 8)) ≡ gather (stepLanes cs bs weight) (from 0 8)
-  row-all =
-      let l = gather (stepLanes cs bs weight) (from 0 8) in
-      let long : length l ≡ 136 = length-rows (stepLanes cs bs weight) 17 step-long (from 0 8) in
-      sym (take-all 136 (padded 136 (pos 0) l) (omega (arith, length-padded (pos 0) 136 l))) ∙ ap (λ k. take k (padded 136 (pos 0) l)) (sym long) ∙ take-padded (pos 0) 136 l (omega arith)
+  pub row-all : (d : List ℤ) → length d ≡ 136 → gather (stepLanes cs bs weight) (from 0 8) ++ drop (8 * 17) d ≡ gather (stepLanes cs bs weight) (from 0 8)
+  row-all d l = ap (λ r. gather (stepLanes cs bs weight) (from 0 8) ++ r) (drop-of-length-le d {i = 136} (omega arith)) ∙ append-nil (gather (stepLanes cs bs weight) (from 0 8))
 
 -- ---- the coefficients that count are in range
 pub parts-right : (m i : ℕ) (kinds : List ℕ) (coefs : List ℤ) → CoefsRight m i kinds coefs → Each (Within 1000) (coefParts m i kinds coefs)

@@ -3,34 +3,66 @@ use mathlib.Core.Path.{_≡_, refl, sym, ap, subst, _∙_}
 use Prim.Native.Nat.{_≤_, _<_, _+_, _*_, _-_}
 use native.Mathlib.Omega.{arith}
 use borrow.Author.Needs.{needs}
-use lib.ListN.{length, getD, take, drop, replicate}
-use lib.IntN.{pos}
+use lib.ListN.{length, getD}
 use Rattle.laws.specs.Z.{back-within}
-use Rattle.slot.proofs.Said.{said-slot, said-weight, said-coefs, said-small}
+use Rattle.meaning.specs.Problem.{version1}
 use Rattle.problem.specs.Held.{campaignOf}
 use Rattle.problem.proofs.Arrays.{long}
 use Rattle.problem.proofs.Faultless.{Right, right}
-use Rattle.meaning.specs.Problem.{version1}
-use Rattle.state.specs.Pairs.{pairs, paired}
-use Rattle.reach.specs.Spans.{Shares}
-use Rattle.reach.proofs.Table.{Behind, shares-small, behind-start, behind-all}
-use Rattle.reach.proofs.Turn.{slots-are, row-is, here-inside, rest-inside, behind-next}
+use Rattle.lent.specs.Lanes.{lanesAt}
+use Rattle.lent.specs.Vec.{slotVec}
+use Rattle.slot.proofs.Said.{said-slot, said-weight, said-coefs, said-small}
+use Rattle.reach.proofs.Table.{Behind, behind-all}
+use Rattle.reach.proofs.Turn.{behind-first, row-is, here-small, rest-small, behind-next}
 use Rattle.reach.proofs.reaches.Statement.{statement}
 use Rattle.reach.proofs.reaches.Tie as tie
 
 abbrev Inv-loop : tie.InvT-loop
-Inv-loop p m table₀ left₀ table left = Right version1 p × (length (p .sets) ≡ 24) × (m ≡ p .m) × (left ≤ p .n) × Behind (campaignOf p) left table
+Inv-loop table₀ p m row₀ left₀ table row left = Right version1 p × (length (p .sets) ≡ 24) × (m ≡ p .m) × (left ≤ p .n) × (length row ≡ 136) × Behind (campaignOf p) left table
 
 abbrev μ-loop : tie.MeasureT-loop
-μ-loop p m table₀ left₀ table left = left
+μ-loop table₀ p m row₀ left₀ table row left = left
+
+-- ---- what a turn knows: the slot is there, and the table has what is behind it
+module _ (c : tie.In-loop Inv-loop μ-loop) where
+  low : c .before .loop .left - 1 < c .before .before .before .before .before .args .t1 .n
+  low = omega (arith, c .loop-test .taken, c .before .loop .inv .3)
+
+  next : c .before .loop .left ≡ c .before .loop .left - 1 + 1
+  next = omega (arith, c .loop-test .taken)
+
+  behind : Behind (campaignOf (c .before .before .before .before .before .args .t1)) (c .before .loop .left - 1 + 1) (c .before .loop .table)
+  behind = subst (λ k. Behind (campaignOf (c .before .before .before .before .before .args .t1)) k (c .before .loop .table)) next (c .before .loop .inv .5)
+
+-- the row is the slot's
+made : (c : tie.After-slot-row Inv-loop μ-loop) → c .slot-row .last .1 .1 .1 .1 .1 .1 .1 .0 ≡ slotVec (campaignOf (c .before .before .before .before .before .before .before .before .before .before .before .before .before .before .args .t1)) (c .before .before .before .before .before .before .before .before .before .before .loop .left - 1)
+made c =
+    let t = c .before .before .before .before .before .before .before .before .before in
+    let l = t .before .loop in
+    row-is (t .before .before .before .before .before .args .t1) (l .inv .0) (l .inv .1) (l .left - 1) (low t) (c .slot-row .last .1 .1 .1 .1 .1 .1 .1 .0) (c .slot-row .ensures)
+
+-- as long as before
+still : (c : tie.After-slot-row Inv-loop μ-loop) → length (c .slot-row .last .1 .1 .1 .1 .1 .1 .1 .0) ≡ 136
+still c = c .slot-row .kept .1 .1 .1 .1 .1 .1 .1 .0 ∙ c .before .before .before .before .before .before .before .before .before .before .loop .inv .4
+
+-- the lanes of the layer behind
+rest : (c : tie.After-lanes-at Inv-loop μ-loop) → c .lanes-at .result ≡ lanesAt (c .before .before .before .before .before .before .before .before .before .before .before .before .before .before .before .loop .table) ((c .before .before .before .before .before .before .before .before .before .before .before .before .before .before .before .loop .left - 1 + 1) * 17)
+rest c = c .lanes-at .ensures ∙ ap (λ k. lanesAt (c .before .before .before .before .before .before .before .before .before .before .before .before .before .before .before .loop .table) (k * 17)) (next (c .before .before .before .before .before .before .before .before .before .before .before .before .before .before))
+
+mul-put-lanes : tie.Need-mul-put-lanes Inv-loop μ-loop
+mul-put-lanes c = omega (arith, right version1 (c .before .args .t1) (c .before .pre .0) .head .most)
+
+put-lanes-requires : tie.Need-put-lanes-requires Inv-loop μ-loop
+put-lanes-requires c κs = omega (arith, right version1 (c .before .args .t1) (c .before .pre .0) .head .most, c .before .pre .1)
 
 loop-holds : tie.Need-loop-holds Inv-loop μ-loop
 loop-holds c =
-    let p = c .args .t1 in
-    let r = right version1 p (c .pre) in
+    let a = c .before .before .before in
+    let p = a .args .t1 in
+    let r = right version1 p (a .pre .0) in
     let sets : length (p .sets) ≡ 24 = search long in
-    let zeros = replicate 400 (pos 0) in
-    (r, sets, refl, omega arith, subst (λ k. Behind (campaignOf p) k zeros) (slots-are p r sets) (behind-start (campaignOf p) (said-small p r) zeros refl))
+    let put = c .before .put-lanes in
+    (r, sets, refl, omega arith, refl, behind-first p r sets (a .args .table .now) (put .last .0) (a .pre .1) (put .ensures))
 
 sub-i : tie.Need-sub-i Inv-loop μ-loop
 sub-i c = omega arith
@@ -47,86 +79,76 @@ mul-weight c = omega arith
 element-copy-out-weight : tie.Need-element-copy-out-weight Inv-loop μ-loop
 element-copy-out-weight c = let l = c .before .before .loop in omega (arith, l .inv .0 .head .most)
 
+slice-aggregate-slot-row : tie.Need-slice-aggregate-slot-row Inv-loop μ-loop
+slice-aggregate-slot-row c = search needs
+
 slot-row-requires : tie.Need-slot-row-requires Inv-loop μ-loop
 slot-row-requires c κs =
-    let l = c .before .before .before .before .before .before .before .before .loop in
-    let p = c .before .before .before .before .before .before .before .before .before .args .t1 in
-    let r = l .inv .0 in
-    let i : l .left - 1 < p .n = omega arith in
-    (r .head .rules, said-slot p r (l .left - 1) i, back-within (said-weight p r (l .left - 1) i) tt, said-coefs p r (l .left - 1) i)
+    let t = c .before .before .before .before .before .before .before .before in
+    let l = t .before .loop in
+    let p = t .before .before .before .before .before .args .t1 in
+    let i = l .left - 1 in
+    (l .inv .0 .head .rules, said-slot p (l .inv .0) i (low t), back-within (said-weight p (l .inv .0) i (low t)) tt, said-coefs p (l .inv .0) i (low t), l .inv .4)
 
 slice-aggregate-span : tie.Need-slice-aggregate-span Inv-loop μ-loop
 slice-aggregate-span c = search needs
 
 span-requires : tie.Need-span-requires Inv-loop μ-loop
-span-requires c κs =
-    let l = c .before .before .before .before .before .before .before .before .before .before .loop in
-    let p = c .before .before .before .before .before .before .before .before .before .before .before .args .t1 in
-    let i : l .left - 1 < p .n = omega arith in
-    let row = c .before .slot-row in
-    subst Shares (sym (row-is p (l .inv .0) (l .inv .1) (l .left - 1) i (row .result) (row .ensures))) (shares-small (campaignOf p) (said-small p (l .inv .0)) (l .left - 1))
+span-requires c κs = still (c .before .before)
 
-slice-aggregate-taken : tie.Need-slice-aggregate-taken Inv-loop μ-loop
-slice-aggregate-taken c = search needs
+mul-lanes-at : tie.Need-mul-lanes-at Inv-loop μ-loop
+mul-lanes-at c = omega arith
 
-mul-taken : tie.Need-mul-taken Inv-loop μ-loop
-mul-taken c = omega arith
+lanes-at-requires : tie.Need-lanes-at-requires Inv-loop μ-loop
+lanes-at-requires c κs = let l = c .before .before .before .before .before .before .before .before .before .before .before .before .before .before .loop in omega (arith, l .inv .0 .head .most, l .inv .3, l .inv .5 .long)
 
-taken-requires : tie.Need-taken-requires Inv-loop μ-loop
-taken-requires c κs = let l = c .before .before .before .before .before .before .before .before .before .before .before .before .loop in omega (arith, l .inv .0 .head .most, l .inv .4 .long)
+mul-put-lanes-2 : tie.Need-mul-put-lanes-2 Inv-loop μ-loop
+mul-put-lanes-2 c = omega arith
 
-slice-aggregate-laid : tie.Need-slice-aggregate-laid Inv-loop μ-loop
-slice-aggregate-laid c = search needs
-
-mul-laid : tie.Need-mul-laid Inv-loop μ-loop
-mul-laid c = omega arith
-
-plus-requires : tie.Need-plus-requires Inv-loop μ-loop
-plus-requires c κs =
-    let l = c .before .before .before .before .before .before .before .before .before .before .before .before .before .before .loop in
-    let p = c .before .before .before .before .before .before .before .before .before .before .before .before .before .before .before .args .t1 in
-    let i : l .left - 1 < p .n = omega (arith, c .before .before .before .before .before .before .before .before .before .before .before .before .before .loop-test .taken) in
-    let row = c .before .before .before .before .before .slot-row in
-    let span = c .before .before .before .span in
-    let rest = c .before .taken in
-    let next : l .left ≡ l .left - 1 + 1 = omega (arith, c .before .before .before .before .before .before .before .before .before .before .before .before .before .loop-test .taken) in
-    let behind = subst (λ k. Behind (campaignOf p) k (l .table)) next (l .inv .4) in (
-      here-inside p (l .inv .0) (l .inv .1) (l .left - 1) (getD (p .sets) (l .left - 1) 0) (row .result) (pairs (span .result)) (row-is p (l .inv .0) (l .inv .1) (l .left - 1) i (row .result) (row .ensures)) (span .ensures),
-      rest-inside p (l .inv .0) (l .inv .1) (l .left - 1) i (l .table) behind (pairs (rest .result)) (rest .ensures ∙ ap (λ k. paired (take 16 (drop (k * 16) (l .table)))) next),
+sum-of-requires : tie.Need-sum-of-requires Inv-loop μ-loop
+sum-of-requires c κs =
+    let t = c .before .before .before .before .before .before .before .before .before .before .before .before .before .before .before in
+    let l = t .before .loop in
+    let p = t .before .before .before .before .before .args .t1 in
+    let i = l .left - 1 in
+    let row = c .before .before .before .before .before .before .slot-row .last .1 .1 .1 .1 .1 .1 .1 .0 in (
+      here-small p (l .inv .0) (l .inv .1) i (getD (p .sets) i 0) row (c .before .before .before .span .result) (made (c .before .before .before .before .before .before)) (c .before .before .before .span .ensures),
+      rest-small p (l .inv .0) (l .inv .1) i (low t) (l .table) (behind t) (c .before .lanes-at .result) (rest (c .before)),
     )
 
-laid-requires : tie.Need-laid-requires Inv-loop μ-loop
-laid-requires c κs = let l = c .before .before .before .before .before .before .before .before .before .before .before .before .before .before .before .loop in omega (arith, l .inv .0 .head .most, l .inv .4 .long)
+put-lanes-requires-2 : tie.Need-put-lanes-requires-2 Inv-loop μ-loop
+put-lanes-requires-2 c κs = let l = c .before .before .before .before .before .before .before .before .before .before .before .before .before .before .before .before .before .loop in omega (arith, l .inv .0 .head .most, l .inv .3, l .inv .5 .long, low (c .before .before .before .before .before .before .before .before .before .before .before .before .before .before .before .before))
 
 loop-less : tie.Need-loop-less Inv-loop μ-loop
 loop-less c = omega arith
 
 loop-again : tie.Need-loop-again Inv-loop μ-loop
 loop-again c =
-    let l = c .before .before .before .before .before .before .before .before .before .before .before .before .before .before .before .before .before .loop in
-    let p = c .before .before .before .before .before .before .before .before .before .before .before .before .before .before .before .before .before .before .args .t1 in
-    let i : l .left - 1 < p .n = omega (arith, c .before .before .before .before .before .before .before .before .before .before .before .before .before .before .before .before .loop-test .taken) in
-    let row = c .before .before .before .before .before .before .before .before .slot-row in
-    let span = c .before .before .before .before .before .before .span in
-    let rest = c .before .before .before .before .taken in
-    let both = c .before .before .plus in
-    let table = c .before .laid in
-    let next : l .left ≡ l .left - 1 + 1 = omega (arith, c .before .before .before .before .before .before .before .before .before .before .before .before .before .before .before .before .loop-test .taken) in
-    let behind = subst (λ k. Behind (campaignOf p) k (l .table)) next (l .inv .4) in (
+    let t = c .before .before .before .before .before .before .before .before .before .before .before .before .before .before .before .before .before .before in
+    let l = t .before .loop in
+    let p = t .before .before .before .before .before .args .t1 in
+    let i = l .left - 1 in
+    let row = c .before .before .before .before .before .before .before .before .before .slot-row .last .1 .1 .1 .1 .1 .1 .1 .0 in
+    let here = c .before .before .before .before .before .before .span in
+    let both = c .before .before .sum-of in
+    let table = c .before .put-lanes2 in (
       l .inv .0,
       l .inv .1,
       refl,
       omega arith,
-      behind-next p (l .inv .0) (l .inv .1) (l .left - 1) i (l .table) behind (row .result) (table .last .0) (pairs (span .result)) (pairs (rest .result)) (pairs (both .result))
-          (row-is p (l .inv .0) (l .inv .1) (l .left - 1) i (row .result) (row .ensures)) (span .ensures) (rest .ensures ∙ ap (λ k. paired (take 16 (drop (k * 16) (l .table)))) next) (both .ensures) (table .ensures),
+      still (c .before .before .before .before .before .before .before .before .before),
+      behind-next p (l .inv .0) (l .inv .1) i (low t) (l .table) (behind t) row (table .last .0) (here .result) (c .before .before .before .before .lanes-at .result) (both .result) (made (c .before .before .before .before .before .before .before .before .before)) (here .ensures) (rest (c .before .before .before .before)) (both .ensures) (table .ensures),
     )
+
+same-length : tie.Need-same-length Inv-loop μ-loop
+same-length c = c .before .loop .inv .5 .long ∙ sym (c .before .before .before .before .before .pre .1)
 
 returns : tie.Need-returns Inv-loop μ-loop
 returns c =
     let l = c .before .loop in
-    let p = c .before .before .args .t1 in
+    let p = c .before .before .before .before .before .args .t1 in
     let none : l .left ≡ 0 = omega arith in
-    behind-all (campaignOf p) (said-small p (l .inv .0)) (l .table) (subst (λ k. Behind (campaignOf p) k (l .table)) none (l .inv .4))
+    behind-all (campaignOf p) (said-small p (l .inv .0)) (l .table) (subst (λ k. Behind (campaignOf p) k (l .table)) none (l .inv .5))
 
 pub reaches-spec : {M : Type 1} → statement M
 reaches-spec =
@@ -134,22 +156,24 @@ reaches-spec =
     (tie.spec
     Inv-loop
     μ-loop
+    mul-put-lanes
+    put-lanes-requires
     loop-holds
     sub-i
     mul-set
     element-copy-out-set
     mul-weight
     element-copy-out-weight
+    slice-aggregate-slot-row
     slot-row-requires
     slice-aggregate-span
     span-requires
-    slice-aggregate-taken
-    mul-taken
-    taken-requires
-    slice-aggregate-laid
-    mul-laid
-    plus-requires
-    laid-requires
+    mul-lanes-at
+    lanes-at-requires
+    mul-put-lanes-2
+    sum-of-requires
+    put-lanes-requires-2
     loop-less
     loop-again
+    same-length
     returns)

@@ -1,41 +1,38 @@
--- Step by step the shares are merged. What is left to merge gives the whole span.
+-- Step by step the least of the lanes so far and the step's. What is left to do gives the least over the whole set.
 use mathlib.Core.Path.{sym, ap, _∙_}
 use mathlib.Core.Logic.{⊎-elim}
-use Prim.Native.Nat.{_*_, _-_}
-use lib.ListN.{take, drop}
+use Prim.Native.Nat.{_-_}
 use native.Mathlib.Omega.{arith}
 use borrow.Author.Needs.{needs}
-use Rattle.laws.specs.Z.{Within, widen}
-use Rattle.laws.proofs.Each.{each-more}
-use Rattle.state.specs.Pairs.{pairs}
-use Rattle.reach.proofs.Spans.{Spanned, span-start, span-yes, span-no, span-end, none-inside}
+use Rattle.lent.specs.Lanes.{leasts}
+use Rattle.reach.specs.Spans.{leastOver}
+use Rattle.reach.proofs.Spans.{Spanned, no-steps, span-start, span-yes, span-no, span-end}
 use Rattle.reach.proofs.span.Statement.{statement}
 use Rattle.reach.proofs.span.Tie as tie
 
 abbrev Inv-loop : tie.InvT-loop
-Inv-loop row set none s₀ some₀ v₀ s some v = Spanned row set v (pairs s) some
+Inv-loop row set s₀ v₀ s v = Spanned row set v s
 
 abbrev μ-loop : tie.MeasureT-loop
-μ-loop row set none s₀ some₀ v₀ s some v = 8 - v
+μ-loop row set s₀ v₀ s v = 8 - v
+
+returns : tie.Need-returns Inv-loop μ-loop
+returns c = sym (ap (leastOver (c .before .args .row .now)) (no-steps (c .before .args .set) (omega (arith, c .if1 .taken))))
 
 loop-holds : tie.Need-loop-holds Inv-loop μ-loop
-loop-holds c = span-start (c .args .row .now) (c .args .set)
+loop-holds c = span-start (c .before .args .row .now) (c .before .args .set)
 
 allows-requires : tie.Need-allows-requires Inv-loop μ-loop
 allows-requires c κs = tt
 
-mul-child : tie.Need-mul-child Inv-loop μ-loop
-mul-child c = omega arith
+mul-lanes-at : tie.Need-mul-lanes-at Inv-loop μ-loop
+mul-lanes-at c = omega arith
 
-child-requires : tie.Need-child-requires Inv-loop μ-loop
-child-requires c κs =
-    let p = c .before .before .before .before .pre in
-    let v = c .before .before .before .loop .v in
-    let row = c .before .before .before .before .args .row .now in
-    (omega (arith, p .long), none-inside, each-more (Within 10000) (Within 1000000) (λ z w. widen tt w) (take 8 (drop (v * 17) row)) (p .small v (omega arith)))
+lanes-at-requires : tie.Need-lanes-at-requires Inv-loop μ-loop
+lanes-at-requires c κs = omega (arith, c .before .before .before .before .before .pre)
 
-joined-requires : tie.Need-joined-requires Inv-loop μ-loop
-joined-requires c κs = tt
+least-of-requires : tie.Need-least-of-requires Inv-loop μ-loop
+least-of-requires c κs = tt
 
 add-v : tie.Need-add-v Inv-loop μ-loop
 add-v c = omega arith
@@ -48,14 +45,12 @@ loop-again c =
     let l = c .before .before .before .loop in
     let allowed = c .before .allows .ensures in
     ⊎-elim
-    (λ w.
-    span-yes (l .inv) (omega arith) (sym allowed ∙ w .0 .taken) (pairs (w .1 .result)) (pairs (c .if1 .s)) (c .if1 .some) (w .1 .ensures)
-    (ap pairs (w .3) ∙ w .2 .ensures) (w .4))
-    (λ w. span-no (l .inv) (omega arith) (sym allowed ∙ w .0 .left) (pairs (c .if1 .s)) (c .if1 .some) (ap pairs (w .1)) (w .2))
-    (c .if1 .came)
+    (λ w. span-yes (l .inv) (omega arith) (sym allowed ∙ w .0 .taken) (c .if2 .s) (w .3 ∙ w .2 .ensures ∙ ap (leasts (l .s)) (w .1 .ensures)))
+    (λ w. span-no (l .inv) (omega arith) (sym allowed ∙ w .0 .left) (c .if2 .s) (w .1))
+    (c .if2 .came)
 
-returns : tie.Need-returns Inv-loop μ-loop
-returns c = span-end (c .before .loop .inv) (omega arith)
+returns-2 : tie.Need-returns-2 Inv-loop μ-loop
+returns-2 c = span-end (c .before .loop .inv) (omega arith) (λ none. omega (arith, c .before .before .if1 .left))
 
 pub span-spec : {M : Type 1} → statement M
 span-spec =
@@ -63,12 +58,13 @@ span-spec =
     (tie.spec
     Inv-loop
     μ-loop
+    returns
     loop-holds
     allows-requires
-    mul-child
-    child-requires
-    joined-requires
+    mul-lanes-at
+    lanes-at-requires
+    least-of-requires
     add-v
     loop-less
     loop-again
-    returns)
+    returns-2)

@@ -1,29 +1,31 @@
 -- Each rule's lane goes to its two places; then the price. The first r lanes are laid.
-use mathlib.Core.Path.{_≡_, refl, sym, ap, _∙_}
+use mathlib.Core.Path.{_≡_, sym, ap, _∙_}
 use Prim.Native.Nat.{_-_, _≤_}
 use native.Mathlib.Omega.{arith}
 use borrow.Author.Needs.{needs}
 use lib.ListN.{length}
 use Rattle.problem.proofs.Arrays.{long}
 use Rattle.slot.specs.Rows.{lanesOf}
-use lib.ListN.{getD}
-use lib.IntN.{pos, _*ℤ_}
+use lib.ListN.{getD, length-set}
+use lib.IntN.{pos, negℤ, _-ℤ_, _*ℤ_}
 use mir.Facts.{toZ-ofZ}
 use Rattle.laws.specs.Z.{Within, back, back-is, back-within}
 use Rattle.laws.proofs.Each.{each-at}
 use Rattle.slot.specs.Rows.{laneOf}
-use Rattle.slot.proofs.Laws.{filled, filled-more, filled-all, lanes-long, lanes-at, turned-fits, turned-is}
+use Rattle.slot.proofs.Laws.{Filled, filled-none, filled-more, filled-all, lanes-long, lanes-at, turned-fits, turned-is}
 use Rattle.slot.proofs.step_lanes.Statement.{statement}
 use Rattle.slot.proofs.step_lanes.Tie as tie
 
 abbrev Inv-loop : tie.InvT-loop
-Inv-loop weight v p x₀ r₀ x r = (length (p .coefs) ≡ 8) × (length (p .values) ≡ 8) × (r ≤ 8) × (x ≡ filled (lanesOf (p .coefs) (p .values) v) r)
+Inv-loop weight v row₀ p r₀ row r = (length (p .coefs) ≡ 8) × (length (p .values) ≡ 8) × (r ≤ 8) × Filled (lanesOf (p .coefs) (p .values) v) row r
 
 abbrev μ-loop : tie.MeasureT-loop
-μ-loop weight v p x₀ r₀ x r = 8 - r
+μ-loop weight v row₀ p r₀ row r = 8 - r
 
 loop-holds : tie.Need-loop-holds Inv-loop μ-loop
-loop-holds c = (search long, search long, omega arith, refl)
+loop-holds c =
+    let a = c .args in
+    (search long, search long, omega arith, filled-none (lanesOf (a .t1 .coefs) (a .t1 .values) (a .v)) (a .row .now) (c .pre .3))
 
 mul-coef : tie.Need-mul-coef Inv-loop μ-loop
 mul-coef c = omega arith
@@ -43,23 +45,25 @@ lane-requires c κs =
     let r = c .before .before .before .loop .r in
     (s .pre .0, back-within (each-at (Within 1000) (s .args .t1 .coefs) r (pos 0) (record { size = omega arith }) (s .pre .2)) tt)
 
-mul-x : tie.Need-mul-x Inv-loop μ-loop
-mul-x c = omega arith
+mul-z : tie.Need-mul-z Inv-loop μ-loop
+mul-z c = omega arith
 
-array-set-from-x : tie.Need-array-set-from-x Inv-loop μ-loop
-array-set-from-x c = omega arith
+slice-set-from-z : tie.Need-slice-set-from-z Inv-loop μ-loop
+slice-set-from-z c = omega arith
 
-sub-x : tie.Need-sub-x Inv-loop μ-loop
-sub-x c = turned-fits (c .lane .ensures .1)
+sub-row : tie.Need-sub-row Inv-loop μ-loop
+sub-row c = turned-fits (c .lane .ensures .1)
 
-add-x : tie.Need-add-x Inv-loop μ-loop
-add-x c = omega arith
+add-t11 : tie.Need-add-t11 Inv-loop μ-loop
+add-t11 c = omega arith
 
-mul-x-2 : tie.Need-mul-x-2 Inv-loop μ-loop
-mul-x-2 c = omega arith
+mul-t19 : tie.Need-mul-t19 Inv-loop μ-loop
+mul-t19 c = omega arith
 
-array-set-from-x-2 : tie.Need-array-set-from-x-2 Inv-loop μ-loop
-array-set-from-x-2 c = omega arith
+slice-set-from-row : tie.Need-slice-set-from-row Inv-loop μ-loop
+slice-set-from-row c =
+    let l = c .before .before .before .before .loop in
+    omega (arith, l .inv .3 .long, length-set (l .row) (l .r) (back (c .lane .result)))
 
 add-r : tie.Need-add-r Inv-loop μ-loop
 add-r c = omega arith
@@ -83,14 +87,19 @@ loop-again c =
       l .inv .0,
       l .inv .1,
       omega arith,
-      rw (l .inv .3, turned-is (c .lane .ensures .1), back-is (c .lane .ensures .1) tt, is) (filled-more ls wide (l .r) (omega arith)),
+      filled-more ls (l .row) (l .r) (omega arith) (l .inv .3) (back res) (back (pos 0 -ℤ back res)) (back-is (c .lane .ensures .1) tt ∙ is) (turned-is (c .lane .ensures .1) ∙ ap negℤ is),
     )
 
 price-requires : tie.Need-price-requires Inv-loop μ-loop
 price-requires c κs = (c .before .before .pre .0, back-within (c .before .before .pre .1) tt)
 
-array-set-from-x-3 : tie.Need-array-set-from-x-3 Inv-loop μ-loop
-array-set-from-x-3 c = search needs
+slice-set-from-row-2 : tie.Need-slice-set-from-row-2 Inv-loop μ-loop
+slice-set-from-row-2 c = search needs
+
+same-length : tie.Need-same-length Inv-loop μ-loop
+same-length c =
+    let l = c .before .before .loop in
+    length-set (l .row) 16 (back (c .price .result)) ∙ l .inv .3 .long ∙ sym (c .before .before .before .pre .3)
 
 returns : tie.Need-returns Inv-loop μ-loop
 returns c =
@@ -102,7 +111,8 @@ returns c =
     let end : l .r ≡ 8 = omega arith in
     let price : back (c .price .result) ≡ a .weight *ℤ pos (a .v) =
     back-is (c .price .ensures .1) tt ∙ c .price .ensures .0 ∙ ap (λ z. z *ℤ pos (a .v)) (toZ-ofZ (c .before .before .before .fits .weight)) in
-    rw (l .inv .3, end, price) (filled-all ls wide (a .weight *ℤ pos (a .v)))
+    let all : Filled ls (l .row) 8 = rw end at (l .inv .3) in
+    rw price (filled-all ls (l .row) wide all (a .weight *ℤ pos (a .v)))
 
 pub step-lanes-spec : {M : Type 1} → statement M
 step-lanes-spec =
@@ -116,15 +126,16 @@ step-lanes-spec =
     mul-value
     element-copy-out-value
     lane-requires
-    mul-x
-    array-set-from-x
-    sub-x
-    add-x
-    mul-x-2
-    array-set-from-x-2
+    mul-z
+    slice-set-from-z
+    sub-row
+    add-t11
+    mul-t19
+    slice-set-from-row
     add-r
     loop-less
     loop-again
     price-requires
-    array-set-from-x-3
+    slice-set-from-row-2
+    same-length
     returns)
