@@ -5,3 +5,5 @@ pub mod Blocks
 pub mod Passes
 -- the limit
 pub mod Limit
+-- bytes that hold the arcs of a diagram
+pub mod Held

@@ -1,9 +1,7 @@
 -- What does the limit hold while a loop writes the bounds of the rules to it?
 use mathlib.Core.Path.{_≡_, refl, sym, ap, _∙_}
 use mathlib.Core.List.{List, [], _∷_, _++_, map}
-use mathlib.Core.Bool.{Bool, true, false}
-use Prim.Native.Nat.{ℕ, suc, _+_, _≤_, _<_}
-use native.Mathlib.Nat.{zero-add}
+use Prim.Native.Nat.{ℕ, _+_, _≤_, _<_}
 use native.Mathlib.Omega.{arith}
 use lib.ListN.{length, getD, set, replicate, length-append}
 use lib.Seq.{set-append-left, set-at}
@@ -17,9 +15,10 @@ use Rattle.problem.specs.declared.Problem.{Problem}
 use Rattle.problem.specs.Held.{saidAt, campaignOf}
 use Rattle.problem.proofs.Faultless.{right}
 use Rattle.lent.specs.Vec.{limitVec}
+use Rattle.rows.proofs.Free.{set-behind}
 use Rattle.slot.proofs.Laws.{entry-laid}
 use Rattle.slot.proofs.Said.{map-map}
-use Rattle.numbers.specs.Whole.{Ready, testOf}
+use Rattle.numbers.specs.Whole.{Ready}
 
 -- the bounds of the first r rules, the lower ones with their sign turned, all else out of reach
 module _ (p : Problem) where
@@ -46,10 +45,6 @@ module _ (p : Problem) where
   sixteen : (r k : ℕ) → length (lanes high r ++ lanes low k) ≡ 16
   sixteen r k = length-append (lanes high r) (lanes low k) ∙ omega (arith, eight high r, eight low k)
 
-  set-behind : (xs ys : List ℤ) (i : ℕ) (a : ℤ) → set (xs ++ ys) (length xs + i) a ≡ xs ++ set ys i a
-  set-behind [] ys i a = rw (zero-add i) refl
-  set-behind (x ∷ xs) ys i a = let o : suc (length xs) + i ≡ suc (length xs + i) = omega arith in rw o (ap (λ (l : List ℤ). x ∷ l) (set-behind xs ys i a))
-
   pub bounds-more : {x : List ℤ} {r : ℕ} {a b : ℤ} → Bounds x r → r < p .m → a ≡ getD (p .ub) r (pos 0) → b ≡ negℤ (getD (p .lb) r (pos 0)) → Bounds (set (set x r a) (8 + r) b) (r + 1)
   bounds-more {x} {r} {a} {b} s h ea eb =
       let few = s .few in
@@ -70,16 +65,13 @@ module _ (p : Problem) where
   rules-map : (g : Rule → ℤ) → map g (campaignOf p .rules) ≡ map (λ k. g (ruleOf (saidAt p k))) (from 0 (p .m))
   rules-map g = ap (map g) (map-map ruleOf (saidAt p) (from 0 (p .m))) ∙ map-map g (λ (k : ℕ). ruleOf (saidAt p k)) (from 0 (p .m))
 
-  pub bounds-end : {x : List ℤ} {r : ℕ} {c z : ℤ} {free : Bool} → Bounds x r → p .m ≤ r → z ≡ c → free ≡ false → set x 16 z ≡ limitVec (testOf free c) (campaignOf p)
-  bounds-end {x} {r} {c} {z} {free} s h e f =
+  pub bounds-end : {x : List ℤ} {r : ℕ} {c z : ℤ} → Bounds x r → p .m ≤ r → z ≡ c → set x 16 z ≡ limitVec c (campaignOf p)
+  bounds-end {x} {r} {c} s h e =
       let o : r ≡ p .m = omega (arith, s .done) in
       let ubs = rules-map (λ r. r .ub) in
       let lbs = ap (map negℤ) (rules-map (λ r. r .lb)) ∙ map-map negℤ (λ (k : ℕ). getD (p .lb) k (pos 0)) (from 0 (p .m)) in
       (λ j. set (s .is j) 16 (e j)) ∙ set-at (lanes high r ++ lanes low r) (pos 2000000) [] c 16 (sixteen r r) ∙ ap (λ (k : ℕ). lanes high k ++ lanes low k ++ (c ∷ [])) o
-      ∙ sym (ap (λ (t : Bool). limitVec (testOf t c) (campaignOf p)) f ∙ λ j. padded 8 (pos 2000000) (ubs j) ++ padded 8 (pos 2000000) (lbs j) ++ (c ∷ []))
-
-  pub no-bounds : (c : ℤ) {free : Bool} → free ≡ true → replicate 17 (pos 2000000) ≡ limitVec (testOf free c) (campaignOf p)
-  no-bounds c {free} f = ap (λ (t : Bool). limitVec (testOf t c) (campaignOf p)) (sym f)
+      ∙ sym (λ j. padded 8 (pos 2000000) (ubs j) ++ padded 8 (pos 2000000) (lbs j) ++ (c ∷ []))
 
   pub low-within : {w : ℕ} → Ready p w → (r : ℕ) → r < p .m → Within 200000 (getD (p .lb) r (pos 0))
   low-within h r l = right version1 p (h .right) .rule r l .fields .low

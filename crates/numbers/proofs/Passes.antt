@@ -1,7 +1,7 @@
 -- What do the two passes hold between two layers, and what does a layer add?
 use mathlib.Core.Path.{_≡_, refl, sym, ap, _∙_}
 use mathlib.Core.List.{List, [], _∷_, _++_, map}
-use mathlib.Core.Bool.{Bool, true, false, not, _||_}
+use mathlib.Core.Bool.{Bool, false, not, _||_}
 use mathlib.Core.Option.{some}
 use Prim.Native.Nat.{ℕ, zero, suc, _+_, _*_, _-_, _≤_, _<_}
 use native.Mathlib.Nat.{zero-add, mul-comm, mul-assoc, mul-le-mul}
@@ -13,7 +13,7 @@ use Rattle.laws.specs.Z.{Within, back, back-is, back-within}
 use Rattle.laws.specs.Lists.{flat, gather, from, padded, parted, same}
 use Rattle.laws.proofs.Lists.{length-from}
 use Rattle.laws.proofs.Filled.{length-rows}
-use Rattle.laws.proofs.Each.{Each, each-flat}
+use Rattle.laws.proofs.Each.{Each, each-more, each-flat}
 use Rattle.meaning.specs.Plan.{Rule, Campaign}
 use Rattle.meaning.specs.Diagram.{Pair, Arcs, starts}
 use Rattle.meaning.specs.Problem.{version1}
@@ -23,20 +23,22 @@ use Rattle.problem.specs.declared.Problem.{Problem}
 use Rattle.problem.specs.Held.{campaignOf}
 use Rattle.problem.proofs.Faultless.{right}
 use Rattle.lent.specs.Wide.{laid}
-use Rattle.lent.specs.Passes.{Slot, Row, Bytes, bringLayer, raiseLayer, downCells, upCells, testLayer, layerCells}
-use Rattle.lent.specs.Vec.{vec, slotVec, rowVec, limitVec}
-use Rattle.lent.specs.Small.{Small, CeilingFits}
+use Rattle.lent.specs.Passes.{Slot, Row, Spare, Bytes, HalfCells, bringLayer, raiseLayer, roomLanes, downCells, upCells, testLayer, layerCells}
+use Rattle.lent.specs.Vec.{vec, slotVec, rowVec, testOf, limitVec}
+use Rattle.lent.specs.Small.{Small}
 use Rattle.lent.proofs.Vec.{slot-vec}
-use Rattle.lent.proofs.Whole.{downsAt, upsAt, down-first, up-last, Whole, halfBlock, cellBlock, byteBlock, half-long, down-row, up-row, half-blocks, half-within, all-blocks, laid-blocks, low, down-turn, up-turn, test-turn, cell-turn, last-turn, layers-long, layer-at, bytes-whole}
+use Rattle.lent.proofs.Whole.{downsAt, upsAt, down-first, up-last, Whole, halfBlock, cellBlock, byteBlock, half-long, down-row, up-row, half-blocks, half-right, all-blocks, laid-blocks, lower, down-behind, up-behind, down-turn, up-turn, test-turn, cell-turn, last-turn, layers-long, layer-at, bytes-whole}
 use Rattle.slot.specs.Rows.{slotLanes, CoefsRight}
 use Rattle.slot.proofs.Said.{said-slot, said-weight, said-coefs, said-row, said-small, rules-long}
 use Rattle.rows.proofs.Laid.{part-is, place-in, put}
-use Rattle.numbers.specs.Whole.{Ready, Formed, testOf, halfCells}
+use Rattle.rows.proofs.Lanes.{each-replicate}
+use Rattle.numbers.specs.Whole.{Ready, Formed, halfCells}
 use Rattle.numbers.proofs.Blocks.{Onward, onward-start, onward-place, onward-more, onward-end, Back, back-start, back-place, back-part, back-more, back-end, block-at, Fell, fell-start, fell-more, fell-end}
 
 -- ---- where the passes run: bytes b of arcs a, n layers of w nodes, m rules
 pub record Setting (q : Campaign) (w n m : ℕ) (b : List ℕ) (a : Arcs) : Type 0 where
   pub small : Small q
+  pub some : 1 ≤ w
   pub whole : Whole w a
   pub count : length a ≡ n
   pub rules : length (q .rules) ≡ m
@@ -52,6 +54,7 @@ setting {p} {w} {b} r f e =
     let long : length b ≡ k * (w * 8) = f .long ∙ turned in
     record {
       small = said-small p h;
+      some = r .some;
       whole = bytes-whole k w b (omega (arith, h .head .most)) (r .few) long (f .form);
       count = layers-long k w b ∙ slots;
       rules = rules-long p;
@@ -80,10 +83,11 @@ pub ready-one : {p : Problem} {w : ℕ} → Ready p w → Ready p 1
 ready-one r = record { right = r .right; some = omega arith; few = omega arith }
 
 -- what `slot_row` asks for
-pub slot-asks : {p : Problem} {w : ℕ} → Ready p w → (i : ℕ) → i < p .n → (p .m ≤ 8) × (i < 24) × Within 10000 (back (getD (p .weights) i (pos 0))) × CoefsRight (p .m) i (p .kinds) (p .coefs)
-slot-asks {p} r i l =
+pub slot-asks : {p : Problem} {w : ℕ} → Ready p w → (i : ℕ) → i < p .n → (row : List ℤ) → length row ≡ 136
+    → (p .m ≤ 8) × (i < 24) × Within 10000 (back (getD (p .weights) i (pos 0))) × CoefsRight (p .m) i (p .kinds) (p .coefs) × (length row ≡ 136)
+slot-asks {p} r i l row e =
     let h = right version1 p (r .right) in
-    (h .head .rules, said-slot p h i l, back-within (said-weight p h i l) tt, said-coefs p h i l)
+    (h .head .rules, said-slot p h i l, back-within (said-weight p h i l) tt, said-coefs p h i l, e)
 
 -- the row that it gives
 pub row-said : {p : Problem} {w : ℕ} → Ready p w → (i : ℕ) → i < p .n → {row : List ℤ}
@@ -92,10 +96,9 @@ row-said {p} r i l e =
     let h = right version1 p (r .right) in
     e ∙ ap (λ (z : ℤ). slotLanes (p .m) i z (p .kinds) (p .values) (p .slots) (p .coefs)) (back-is (said-weight p h i l) tt) ∙ said-row p h i l
 
--- what the test asks of the ceiling
-pub test-fits : (free : Bool) {c : ℤ} → Within 2000000 c → CeilingFits (testOf free c)
-test-fits true h = tt
-test-fits false h = h
+-- the rows to work in, as they are at first
+pub spare-start : Spare (replicate 272 (pos 4000000))
+spare-start = record { long = refl; inside = each-replicate (Within 8000000) 272 (record { size = omega arith }) }
 
 -- ---- one node, whose numbers are zero
 abbrev pub origin : Pair
@@ -126,10 +129,10 @@ zeros-zero [] = refl
 zeros-zero (r ∷ rs) = ap (λ (l : List Pair). origin ∷ l) (zeros-zero rs)
 
 -- ---- bytes that are cut are put together again
-flat-parted : (n k : ℕ) (l : List ℕ) → length l ≡ n * k → flat (parted n k l) ≡ l
-flat-parted zero k [] e = refl
-flat-parted zero k (x ∷ l) e = absurd (omega arith)
-flat-parted (suc n) k l e = rw (flat-parted n k (drop k l) (omega (arith, length-drop k l))) (take-append-drop k l)
+pub parted-flat : (n k : ℕ) (l : List ℕ) → length l ≡ n * k → flat (parted n k l) ≡ l
+parted-flat zero k [] e = refl
+parted-flat zero k (x ∷ l) e = absurd (omega arith)
+parted-flat (suc n) k l e = rw (parted-flat n k (drop k l) (omega (arith, length-drop k l))) (take-append-drop k l)
 
 -- block i of k elements, as a part of a buffer
 abbrev pub part : {A : Type 0} → List A → ℕ → ℕ → List A
@@ -189,12 +192,12 @@ module _ {q : Campaign} {w n m : ℕ} {b : List ℕ} {a : Arcs} (s : Setting q w
   block-long : (i : ℕ) → length (halfBlock q w a i) ≡ size
   block-long i = half-long q w a i ∙ ap (λ (k : ℕ). w * (4 * k + 3)) (s .rules)
 
-  layer-low : (i : ℕ) → i < n → Bytes (take (w * 8) (drop (i * (w * 8)) b))
-  layer-low i h =
+  layer-lower : (i : ℕ) → i < n → Each (λ k. k ≤ w) (take (w * 8) (drop (i * (w * 8)) b))
+  layer-lower i h =
       let c = s .count in
       let l = take (w * 8) (drop (i * (w * 8)) b) in
       let long : length l ≡ w * 8 = length-take-le (w * 8) (drop (i * (w * 8)) b) (omega (arith, s .long, place-in n (w * 8) i h, length-drop (i * (w * 8)) b)) in
-      rw (← flat-parted w 8 l long) (each-flat (λ (b : ℕ). b ≤ 16) (parted w 8 l) (rw (s .layer i h) at (low q (s .small) w a (s .whole) i (omega arith))))
+      rw (← parted-flat w 8 l long) (each-flat (λ (k : ℕ). k ≤ w) (parted w 8 l) (rw (s .layer i h) at (lower q (s .small) w a (s .whole) (s .some) i (omega arith))))
 
   -- ---- down
   half-made : (i : ℕ) {here y : List ℤ} → here ≡ rowVec (downsAt q a i) → y ≡ flat (map (downCells m here) (from 0 w)) → y ≡ halfBlock q w a i
@@ -205,18 +208,21 @@ module _ {q : Campaign} {w n m : ℕ} {b : List ℕ} {a : Arcs} (s : Setting q w
       let zero : replicate m origin ≡ starts (q .rules) = ap (λ (k : ℕ). replicate k origin) (sym (s .rules)) ∙ sym (starts-zero (q .rules) (s .small .starts)) in
       record { done = omega arith; row = e ∙ (λ j. rowVec (some (zero j, pos 0) ∷ [])) ∙ ap rowVec (sym (down-first q a)); laid = onward-start l }
 
-  pub bytes-low : (i : ℕ) → i < n → Bytes (part b i (w * 8))
-  bytes-low i h = rw (part-is (i * (w * 8)) (w * 8) b) (layer-low i h)
+  pub bytes-lower : (i : ℕ) → i < n → Each (λ k. k ≤ w) (part b i (w * 8))
+  bytes-lower i h = rw (part-is (i * (w * 8)) (w * 8) b) (layer-lower i h)
 
   module _ {cells here : List ℤ} {i : ℕ} (d : Down q w n m a cells here i) where
     pub down-right : Row here
     down-right = let c = s .count in rw (d .row) (down-row q (s .small) w a (s .whole) i (omega (arith, d .done)))
 
+    pub down-rest : drop (w * 17) here ≡ replicate ((16 - w) * 17) (pos 4000000)
+    down-rest = let c = s .count in ap (drop (w * 17)) (d .row) ∙ down-behind q (s .small) w a (s .whole) (s .some) i (omega (arith, d .done))
+
     pub down-place : (i * size + size ≤ length cells) × (i * size + size ≤ 14000)
     down-place = let p = onward-place (d .laid) (omega (arith, d .done)) in (p, omega (arith, d .laid .long, few-cells))
 
     pub down-more : {y row next : List ℤ} → i < n → y ≡ flat (map (downCells m here) (from 0 w)) → row ≡ slotVec q i
-        → next ≡ bringLayer row here 0 (parted w 8 (part b i (w * 8))) (rowVec []) → Down q w n m a (put cells (i * size) size y) next (i + 1)
+        → next ≡ bringLayer row here 0 (parted w 8 (part b i (w * 8))) (replicate 272 (pos 4000000)) → Down q w n m a (put cells (i * size) size y) next (i + 1)
     down-more {y} h e f g =
         let c = s .count in
         let made = half-made i (d .row) e in
@@ -262,8 +268,8 @@ module _ {q : Campaign} {w n m : ℕ} {b : List ℕ} {a : Arcs} (s : Setting q w
     last-block : part x n size ≡ halfBlock q w a n
     last-block = part-is (n * size) size x ∙ ap (λ (l : List ℤ). take size (drop (n * size) l)) half ∙ half-part n (omega arith)
 
-    pub last-within : Each (Within 4000000) (part x n size)
-    last-within = let c = s .count in rw last-block (half-within q (s .small) w a (s .whole) n (omega arith))
+    pub last-half : HalfCells m w (part x n size)
+    last-half = let c = s .count in rw (last-block, ← s .rules) (half-right q (s .small) w a (s .whole) n (omega arith))
 
     pub up-start : (e : Test) {next y : List ℤ} → next ≡ rowVec (some (replicate m origin, pos 0) ∷ []) → y ≡ flat (upCells m next 0 (parted w (4 * m + 3) (part x n size))) → length y ≡ size
         → Up q w n m a e b b (put x (n * size) size y) next false n
@@ -291,27 +297,29 @@ module _ {q : Campaign} {w n m : ℕ} {b : List ℕ} {a : Arcs} (s : Setting q w
     up-block = part-is (i * size) size cells ∙ back-part (u .laid) ∙ half-part i (omega (arith, u .bytes .done))
 
     pub up-low : Bytes (part arcs i (w * 8))
-    up-low = rw up-layer (layer-low i (u .bytes .done))
+    up-low = rw up-layer (each-more (λ k. k ≤ w) (λ k. k ≤ 16) (λ k h. omega (arith, s .whole .wide)) (take (w * 8) (drop (i * (w * 8)) b)) (layer-lower i (u .bytes .done)))
 
-    pub up-within : Each (Within 4000000) (part cells i size)
-    up-within = let c = s .count in rw up-block (half-within q (s .small) w a (s .whole) i (omega (arith, u .bytes .done)))
+    pub up-half : HalfCells m w (part cells i size)
+    up-half = let c = s .count in rw (up-block, ← s .rules) (half-right q (s .small) w a (s .whole) i (omega (arith, u .bytes .done)))
 
-    pub up-more : CeilingFits e → {row limit here ys : List ℤ} {bs : List ℕ} {hit fell′ : Bool} → row ≡ slotVec q i → limit ≡ limitVec e q
-        → here ≡ flat (raiseLayer row next (parted w 8 (part arcs i (w * 8)))) ++ drop (w * 17) (rowVec [])
-        → bs ≡ flat (testLayer row next m limit (parted w 8 (part arcs i (w * 8))) (parted w (4 * m + 3) (part cells i size))) → length bs ≡ w * 8
+    pub up-more : (free : Bool) (c : ℤ) → e ≡ testOf free c → {row limit here ys : List ℤ} {bs : List ℕ} {hit fell′ : Bool} → row ≡ slotVec q i → limit ≡ limitVec c q
+        → here ≡ flat (raiseLayer row next (parted w 8 (part arcs i (w * 8)))) ++ drop (w * 17) next
+        → bs ≡ flat (testLayer row next (parted w 8 (part arcs i (w * 8))) (map (roomLanes m free limit) (parted w (4 * m + 3) (part cells i size)))) → length bs ≡ w * 8
         → ys ≡ flat (layerCells row next m (parted w 8 (part arcs i (w * 8))) (parted w (4 * m + 3) (part cells i size))) → length ys ≡ size
         → hit ≡ not (same (part arcs i (w * 8)) bs) → fell′ ≡ (fell || hit)
         → Up q w n m a e b (put arcs (i * (w * 8)) (w * 8) bs) (put cells (i * size) size ys) here fell′ i
-    up-more c {row} {limit} {here} {ys} {bs} {hit} {fell′} er el eh eb lb ey ly ef ft =
+    up-more free c te {row} {limit} {here} {ys} {bs} {hit} {fell′} er el eh eb lb ey ly ef ft =
         let k = s .count in
         let h : i < length a = omega (arith, u .bytes .done) in
         let layer : parted w 8 (part arcs i (w * 8)) ≡ getD a i [] = ap (parted w 8) up-layer ∙ sym (s .layer i (u .bytes .done)) in
         let bytes : bs ≡ byteBlock e q w a i =
-        eb ∙ (λ j. flat (testLayer (er j) (u .row j) (sym (s .rules) j) (el j) (layer j) (parted w (4 * sym (s .rules) j + 3) (up-block j)))) ∙ test-turn q (s .small) w a (s .whole) i h e c in
+        eb ∙ (λ j. flat (testLayer (er j) (u .row j) (layer j) (map (roomLanes (sym (s .rules) j) free (el j)) (parted w (4 * sym (s .rules) j + 3) (up-block j)))))
+        ∙ test-turn q (s .small) w a (s .whole) i h free c ∙ ap (λ t. byteBlock t q w a i) (sym te) in
         let made : ys ≡ cellBlock q w a i =
         ey ∙ (λ j. flat (layerCells (er j) (u .row j) (sym (s .rules) j) (layer j) (parted w (4 * sym (s .rules) j + 3) (up-block j)))) ∙ cell-turn q (s .small) w a (s .whole) i h in
+        let rest : drop (w * 17) next ≡ replicate ((16 - w) * 17) (pos 4000000) = ap (drop (w * 17)) (u .row) ∙ up-behind q (s .small) w a (s .whole) (s .some) (suc i) (omega arith) in
         record {
-          row = eh ∙ (λ j. flat (raiseLayer (er j) (u .row j) (layer j)) ++ drop (w * 17) (rowVec [])) ∙ up-turn q (s .small) w a (s .whole) i h;
+          row = eh ∙ (λ j. flat (raiseLayer (er j) (u .row j) (layer j)) ++ rest j) ∙ up-turn q (s .small) w a (s .whole) i h;
           bytes = back-more (u .bytes) bytes lb;
           laid = back-more (u .laid) made ly;
           falls = fell-more (u .falls) (s .long) (u .bytes .done) bytes lb (ef ∙ ap (λ (l : List ℕ). not (same l bs)) up-layer) ft;

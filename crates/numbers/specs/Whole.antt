@@ -1,14 +1,14 @@
--- When may the passes run, what is their test, and what stands in the cells between them?
+-- When may the passes run, and what stands in the cells between them?
 use mathlib.Core.Path.{_≡_}
 use mathlib.Core.List.{List, map}
-use mathlib.Core.Bool.{Bool, true, false}
+use mathlib.Core.Bool.{true}
 use Prim.Native.Nat.{ℕ, _≤_}
 use lib.ListN.{length, replicate}
 use lib.IntN.{ℤ, pos}
 use Rattle.laws.specs.Lists.{flat, padded}
 use Rattle.meaning.specs.Plan.{Campaign}
 use Rattle.meaning.specs.Problem.{version1}
-use Rattle.meaning.specs.Filter.{Numbers, zeros, Test, onPath, within}
+use Rattle.meaning.specs.Filter.{Numbers, zeros}
 use Rattle.meaning.specs.Buffers.{arcsNeed, arcsIn, ofForm, nodeNeed, nodeCells}
 use Rattle.problem.specs.Held.{faultIn}
 use Rattle.problem.specs.declared.Problem.{Problem}
@@ -23,11 +23,6 @@ pub record Ready (p : Problem) (w : ℕ) : Type 0 where
 pub record Formed (q : Campaign) (w : ℕ) (b : List ℕ) : Type 0 where
   pub long : length b ≡ arcsNeed q w
   pub form : ofForm w (arcsIn q w b) ≡ true
-
--- the sweep's test, or a round's
-abbrev pub testOf : Bool → ℤ → Test
-testOf true c = onPath
-testOf false c = within c
 
 -- between the passes: the down numbers of every node, the up numbers at zero
 abbrev pub halfCells : Campaign → ℕ → List (List Numbers) → List ℤ

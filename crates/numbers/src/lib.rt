@@ -1,6 +1,6 @@
 // The numbers of all nodes of any arcs, into the cells; a round and the closing sweep, which drop the arcs that fail their test.
 ghost use mathlib.Core.Path.{_≡_};
-ghost use mathlib.Core.Bool.{not};
+ghost use mathlib.Core.Bool.{true, not};
 ghost use mathlib.Core.List.{[], _∷_};
 ghost use mathlib.Core.Option.{some};
 ghost use lib.ListN.{length, replicate};
@@ -11,13 +11,13 @@ ghost use Rattle.meaning.specs.Filter.{drops, within, swept, downNumbers, upNum
 ghost use Rattle.meaning.specs.Buffers.{cellsNeed, nodeNeed, arcsIn, allCells};
 ghost use Rattle.problem.specs.Held.{campaignOf};
 ghost use Rattle.lent.specs.Wide.{laid};
-ghost use Rattle.lent.specs.Vec.{rowVec, limitVec};
-ghost use Rattle.numbers.specs.Whole.{Ready, Formed, testOf, halfCells};
+ghost use Rattle.lent.specs.Vec.{rowVec, testOf, limitVec};
+ghost use Rattle.numbers.specs.Whole.{Ready, Formed, halfCells};
 use lanes::FAR;
 use problem::Problem;
 
 // The row of a layer with one node, all of whose numbers are zero: the source going down, the sink going up.
-fn one_node(m: usize) -> [i32; 272]
+pub fn one_node(m: usize) -> [i32; 272]
     ensures { λ r. ⌜ r ≡ rowVec (some (replicate m (pos 0, pos 0), pos 0) ∷ []) ⌝ }
 {
     let mut row = [FAR; 272];
@@ -25,15 +25,12 @@ fn one_node(m: usize) -> [i32; 272]
     row
 }
 
-// The limit of a round, the bounds of the rules and the ceiling; that of the sweep is out of reach.
-fn limit_of(p: Problem, free: bool, ceiling: i32) -> [i32; 17]
+// The limit of a round: the bounds of the rules and the ceiling; the lanes that no rule has are out of reach.
+fn limit_of(p: Problem, ceiling: i32) -> [i32; 17]
     requires { ⌜ Ready p 1 ⌝ }
-    ensures { λ r. ⌜ r ≡ limitVec (testOf free ceiling) (campaignOf p) ⌝ }
+    ensures { λ r. ⌜ r ≡ limitVec ceiling (campaignOf p) ⌝ }
 {
     let mut x = [2000000i32; 17];
-    if free {
-        return x;
-    }
     let mut r: usize = 0;
     while r < p.m {
         let lb = p.lb[r];
@@ -46,7 +43,7 @@ fn limit_of(p: Problem, free: bool, ceiling: i32) -> [i32; 17]
     x
 }
 
-// The down numbers of all nodes, layer by layer.
+// The down numbers of all nodes, layer by layer, into the cells; the up numbers stand at zero there.
 fn downs(p: Problem, w: usize, arcs: &[u8], cells: &mut [i32])
     requires { ⌜ Ready p w × Formed (campaignOf p) w (now arcs) × (length (now cells) ≡ cellsNeed (campaignOf p) w) ⌝ }
     ensures { λ r. ⌜ now (cells .exit) ≡ halfCells (campaignOf p) w (downNumbers (campaignOf p) (arcsIn (campaignOf p) w (now (arcs .entry)))) ⌝ }
@@ -56,20 +53,29 @@ fn downs(p: Problem, w: usize, arcs: &[u8], cells: &mut [i32])
     let bytes = w * 8;
     let size = w * (4 * m + 3);
     let mut here = one_node(m);
+    let mut spare = [FAR; 272];
+    let mut row = [0i32; 136];
     let mut i: usize = 0;
     while i < n {
         rows::put_downs(m, w, &here, &mut cells[i * size..i * size + size]);
         let weight = p.weights[i];
-        let row = slot::slot_row(m, i, weight, &p.kinds, &p.values, &p.slots, &p.coefs);
-        let mut next = [FAR; 272];
-        rows::layer_down(
+        slot::slot_row(
+            m,
+            i,
+            weight,
+            &p.kinds,
+            &p.values,
+            &p.slots,
+            &p.coefs,
+            &mut row,
+        );
+        rows::next_down(
             w,
             &row,
-            &here,
+            &mut here,
             &arcs[i * bytes..i * bytes + bytes],
-            &mut next,
+            &mut spare,
         );
-        here = next;
         i += 1;
     }
     rows::put_downs(m, w, &here, &mut cells[n * size..n * size + size]);
@@ -86,51 +92,76 @@ fn ups(p: Problem, w: usize, free: bool, ceiling: i32, arcs: &mut [u8], cells: &
     let m = p.m;
     let bytes = w * 8;
     let size = w * (4 * m + 3);
-    let limit = limit_of(p, free, ceiling);
+    let limit = limit_of(p, ceiling);
     let mut next = one_node(m);
+    let mut spare = [FAR; 272];
+    let mut room = [FAR; 272];
+    let mut row = [0i32; 136];
     rows::put_ups(m, w, &next, &mut cells[n * size..n * size + size]);
     let mut fell = false;
     let mut left = n;
     while 0 < left {
         let i = left - 1;
         let weight = p.weights[i];
-        let row = slot::slot_row(m, i, weight, &p.kinds, &p.values, &p.slots, &p.coefs);
-        let mut here = [FAR; 272];
-        if rows::layer_up(
+        slot::slot_row(
+            m,
+            i,
+            weight,
+            &p.kinds,
+            &p.values,
+            &p.slots,
+            &p.coefs,
+            &mut row,
+        );
+        if rows::next_up(
             m,
             w,
             &row,
-            &next,
-            limit,
+            &mut next,
+            free,
+            &limit,
             &mut arcs[i * bytes..i * bytes + bytes],
             &mut cells[i * size..i * size + size],
-            &mut here,
+            &mut spare,
+            &mut room,
         ) {
             fell = true;
         }
-        next = here;
         left -= 1;
     }
     fell
 }
 
-// A round: all numbers from the arcs present at its start, then the failing arcs fall together. Says whether one did.
-pub fn round(p: Problem, w: usize, ceiling: i32, arcs: &mut [u8], cells: &mut [i32]) -> bool
-    requires { ⌜ Ready p w × Within 2000000 ceiling × Formed (campaignOf p) w (now arcs) × (length (now cells) ≡ cellsNeed (campaignOf p) w) ⌝ }
+// A round: all numbers from the arcs present at its start, then the failing arcs fall together. Says whether one did. The down
+// numbers may stand in the cells already.
+pub fn round(
+    p: Problem,
+    w: usize,
+    known: bool,
+    ceiling: i32,
+    arcs: &mut [u8],
+    cells: &mut [i32],
+) -> bool
+    requires { ⌜ Ready p w × Within 2000000 ceiling × Formed (campaignOf p) w (now arcs) × (length (now cells) ≡ cellsNeed (campaignOf p) w) × (known ≡ true → now cells ≡ halfCells (campaignOf p) w (downNumbers (campaignOf p) (arcsIn (campaignOf p) w (now arcs)))) ⌝ }
     ensures arcs { λ r. ⌜ now (arcs .exit) ≡ laid 8 w (drops (within ceiling) (campaignOf p) (arcsIn (campaignOf p) w (now (arcs .entry)))) ⌝ }
     ensures cells { λ r. ⌜ now (cells .exit) ≡ allCells (nodeNeed (campaignOf p)) w (downNumbers (campaignOf p) (arcsIn (campaignOf p) w (now (arcs .entry)))) (upNumbers (campaignOf p) (arcsIn (campaignOf p) w (now (arcs .entry)))) ⌝ }
     ensures fell { λ r. ⌜ r ≡ not (same (now (arcs .entry)) (now (arcs .exit))) ⌝ }
 {
-    downs(p, w, arcs, cells);
+    if !known {
+        downs(p, w, arcs, cells);
+    }
     ups(p, w, false, ceiling, arcs, cells)
 }
 
 // The closing sweep: every arc on no path falls; the cells hold the numbers, which the sweep changes for no node that is present.
-pub fn sweep(p: Problem, w: usize, arcs: &mut [u8], cells: &mut [i32])
-    requires { ⌜ Ready p w × Formed (campaignOf p) w (now arcs) × (length (now cells) ≡ cellsNeed (campaignOf p) w) ⌝ }
+// The down numbers may stand there already.
+pub fn sweep(p: Problem, w: usize, known: bool, arcs: &mut [u8], cells: &mut [i32])
+    requires { ⌜ Ready p w × Formed (campaignOf p) w (now arcs) × (length (now cells) ≡ cellsNeed (campaignOf p) w) × (known ≡ true → now cells ≡ halfCells (campaignOf p) w (downNumbers (campaignOf p) (arcsIn (campaignOf p) w (now arcs)))) ⌝ }
     ensures arcs { λ r. ⌜ now (arcs .exit) ≡ laid 8 w (swept (campaignOf p) (arcsIn (campaignOf p) w (now (arcs .entry)))) ⌝ }
     ensures cells { λ r. ⌜ now (cells .exit) ≡ allCells (nodeNeed (campaignOf p)) w (downNumbers (campaignOf p) (arcsIn (campaignOf p) w (now (arcs .entry)))) (upNumbers (campaignOf p) (arcsIn (campaignOf p) w (now (arcs .entry)))) ⌝ }
 {
-    downs(p, w, arcs, cells);
+    if !known {
+        downs(p, w, arcs, cells);
+    }
     ups(p, w, true, 0, arcs, cells);
 }

@@ -1,24 +1,23 @@
--- What has a loop over the rules read from a node's cells, or stored in them, at each turn, and how great is what is read?
-use mathlib.Core.Path.{_≡_, refl, sym, ap, _∙_}
-use mathlib.Core.Bool.{Bool, true, false, _||_, cond}
-use mathlib.Core.List.{List, [], _∷_, _++_, map, map-append, append-nil}
+-- What has a loop over the rules stored in a node's cells at each turn, and which down numbers stand in them already?
+use mathlib.Core.Path.{_≡_, refl, sym, ap, _∙_, subst}
+use mathlib.Core.Bool.{Bool, true, false, _||_}
+use mathlib.Core.List.{List, [], _∷_, _++_, map, append-nil}
 use Prim.Native.Nat.{ℕ, suc, _+_, _*_, _≤_, _<_}
-use native.Mathlib.Nat.{suc-add}
 use native.Mathlib.Omega.{arith}
 use lib.Dec.{T, leb}
-use lib.ListN.{length, getD, set, drop, replicate, length-map, length-append, length-drop, drop-of-length-le}
-use lib.Seq.{set-append-left, set-at}
+use lib.ListN.{length, getD, set, drop, replicate, length-append, length-drop, drop-of-length-le, getD-replicate}
+use lib.Seq.{set-getD, getD-drop, getD-append-add}
 use lib.IntN.{ℤ, pos, negℤ, _-ℤ_}
 use mir.Syntax.{w32}
 use mir.Val.{SFits}
 use Rattle.laws.specs.Z.{zarith, dif, neg, parts, eqZ, Within, widen, fits32, back, back-is}
 use Rattle.laws.specs.Lists.{gather, from, padded}
-use Rattle.laws.proofs.Lists.{length-from, cond-first, from-more}
-use Rattle.laws.proofs.Each.{Each, each-of, each-append, each-map}
-use Rattle.laws.proofs.Filled.{length-padded, padded-more, length-rows, gather-more, each-padded}
-use Rattle.lent.specs.Passes.{far, nowhere, nodeLanes, downLanes}
-use Rattle.lanes.proofs.Laws.{lane-within}
-use Rattle.rows.proofs.Lanes.{each-replicate}
+use Rattle.laws.proofs.Lists.{length-from, cond-first, cond-second, from-more}
+use Rattle.laws.proofs.Filled.{length-rows, gather-more}
+use Rattle.lent.specs.Passes.{far, nowhere, nodeLanes, downLanes, HalfNode}
+use Rattle.lent.proofs.Places.{made-at}
+use Rattle.lent.proofs.Lanes.{block-low, block-high, block-cost, neg-neg}
+use Rattle.lent.proofs.Whole.{node-long}
 use Rattle.rows.proofs.Laid.{laid-on}
 
 -- ---- a number with its sign turned, as the code has it
@@ -35,72 +34,6 @@ module _ {z : ℤ} {m : ℕ} (h : Within m z) (t : T (leb m 2147483647)) where
   pub turned : back (pos 0 -ℤ back z) ≡ negℤ z
   turned = rw minus (back-is within-neg t)
 
--- ---- places below r, and one more
-module _ {A : Type 0} where
-  set-behind : (l h : List A) (n : ℕ) (a : A) → set (l ++ h) (length l + n) a ≡ l ++ set h n a
-  set-behind [] h n a = let o : 0 + n ≡ n = omega arith in rw o refl
-  set-behind (x ∷ l) h n a = rw (suc-add (length l) n) (ap (λ r. x ∷ r) (set-behind l h n a))
-
-  -- an array that is filled place by place
-  filled-more : (z : A) (f : ℕ → A) (n r : ℕ) → r < n → set (padded n z (map f (from 0 r))) r (f r) ≡ padded n z (map f (from 0 (r + 1)))
-  filled-more z f n r h =
-      let long : length (map f (from 0 r)) ≡ r = length-map (from 0 r) f ∙ length-from 0 r in
-      let o : 0 + r ≡ r = omega arith in
-      rw long at (padded-more z n (map f (from 0 r)) (f r) (omega arith)) ∙ ap (padded n z) (rw (from-more 0 r, map-append f (from 0 r) ((0 + r) ∷ []), o) refl)
-
--- ---- the down numbers read from cells: x is the array after r rules
-abbrev pub low : List ℤ → ℕ → ℤ
-low c k = getD c (4 * k + 1) (pos 0)
-
-abbrev pub high : List ℤ → ℕ → ℤ
-high c k = negℤ (getD c (4 * k + 2) (pos 0))
-
-abbrev pub lows : List ℤ → ℕ → List ℤ
-lows c r = padded 8 (pos 0) (map (low c) (from 0 r))
-
-abbrev pub highs : List ℤ → ℕ → List ℤ
-highs c r = padded 8 (pos 0) (map (high c) (from 0 r))
-
-pub record Drawn (m : ℕ) (c x : List ℤ) (r : ℕ) : Type 0 where
-  pub few : m ≤ 8
-  pub done : r ≤ m
-  pub is : x ≡ lows c r ++ highs c r ++ (pos 0 ∷ [])
-
-pub drawn-start : (m : ℕ) (c : List ℤ) → m ≤ 8 → Drawn m c (replicate 17 (pos 0)) 0
-drawn-start m c h = record { few = h; done = omega arith; is = refl }
-
-both : (c : List ℤ) (r : ℕ) → length (lows c r ++ highs c r) ≡ 16
-both c r =
-    length-append (lows c r) (highs c r) ∙ omega (arith, length-padded (pos 0) 8 (map (low c) (from 0 r)), length-padded (pos 0) 8 (map (high c) (from 0 r)))
-
-module _ {m r : ℕ} {c x : List ℤ} (d : Drawn m c x r) where
-  pub drawn-more : {a b : ℤ} → r < m → a ≡ getD c (4 * r + 1) (pos 0) → b ≡ negℤ (getD c (4 * r + 2) (pos 0)) → Drawn m c (set (set x r a) (8 + r) b) (r + 1)
-  drawn-more {a} {b} h ea eb =
-      let end : List ℤ = pos 0 ∷ [] in
-      let below : r < 8 = omega (arith, d .few) in
-      let eight : length (lows c r) ≡ 8 = length-padded (pos 0) 8 (map (low c) (from 0 r)) in
-      let eight′ : length (lows c (r + 1)) ≡ 8 = length-padded (pos 0) 8 (map (low c) (from 0 (r + 1))) in
-      let first : set x r a ≡ lows c (r + 1) ++ highs c r ++ end =
-      rw (d .is, ea) (set-append-left (lows c r ++ highs c r) end r (low c r) (omega (arith, both c r))
-      ∙ ap (λ l. l ++ end) (set-append-left (lows c r) (highs c r) r (low c r) (omega arith) ∙ ap (λ l. l ++ highs c r) (filled-more (pos 0) (low c) 8 r below))) in
-      let second : set (lows c (r + 1) ++ highs c r) (8 + r) b ≡ lows c (r + 1) ++ highs c (r + 1) =
-      rw eb (rw eight′ at (set-behind (lows c (r + 1)) (highs c r) r (high c r)) ∙ ap (λ l. lows c (r + 1) ++ l) (filled-more (pos 0) (high c) 8 r below)) in
-      record {
-        few = d .few;
-        done = omega arith;
-        is = ap (λ l. set l (8 + r) b) first
-            ∙ set-append-left (lows c (r + 1) ++ highs c r) end (8 + r) b (omega (arith, length-append (lows c (r + 1)) (highs c r), length-padded (pos 0) 8 (map (high c) (from 0 r))))
-            ∙ ap (λ l. l ++ end) second;
-      }
-
-  pub drawn-end : {a : ℤ} → m ≤ r → eqZ (getD c 0 (pos 0)) (pos 0) ≡ false → a ≡ getD c (4 * m + 1) (pos 0) → set x 16 a ≡ downLanes m c
-  drawn-end {a} h f e =
-      let o : r ≡ m = omega (arith, d .done) in
-      rw (e, f) (ap (λ l. set l 16 (getD c (4 * m + 1) (pos 0))) (rw o at (d .is)) ∙ set-at (lows c m ++ highs c m) (pos 0) [] (getD c (4 * m + 1) (pos 0)) 16 (both c m))
-
-pub drawn-none : (m : ℕ) (c : List ℤ) → eqZ (getD c 0 (pos 0)) (pos 0) ≡ true → nowhere ≡ downLanes m c
-drawn-none m c e = sym (cond-first (eqZ (getD c 0 (pos 0)) (pos 0)) nowhere (lows c m ++ highs c m ++ (getD c (4 * m + 1) (pos 0) ∷ [])) e)
-
 -- ---- the numbers of rules stored in cells: c is what they hold after r rules
 abbrev pub ruleOf : List ℤ → List ℤ → ℕ → List ℤ
 ruleOf d u r = getD d r (pos 0) ∷ negℤ (getD d (8 + r) (pos 0)) ∷ getD u r (pos 0) ∷ negℤ (getD u (8 + r) (pos 0)) ∷ []
@@ -113,6 +46,7 @@ pub record Stored (m : ℕ) (d u c₀ c : List ℤ) (r : ℕ) : Type 0 where
 rules-long : (d u : List ℤ) (r : ℕ) → length (gather (ruleOf d u) (from 0 r)) ≡ r * 4
 rules-long d u r = length-rows (ruleOf d u) 4 (λ k. refl) (from 0 r) ∙ ap (λ n. n * 4) (length-from 0 r)
 
+-- the first cell says that the node is there
 pub stored-start : (m : ℕ) (d u c : List ℤ) → length c ≡ 4 * m + 3 → Stored m d u (set c 0 (pos 1)) (set c 0 (pos 1)) 0
 stored-start m d u [] e = absurd (omega arith)
 stored-start m d u (x ∷ c) e = record { long = e; done = omega arith; is = refl }
@@ -142,6 +76,33 @@ module _ {m r : ℕ} {d u c₀ c : List ℤ} (s : Stored m d u c₀ c r) where
             );
       }
 
+  -- behind them stands what stood there
+  stored-behind : (k : ℕ) → getD c (4 * r + 1 + k) (pos 0) ≡ getD c₀ (4 * r + 1 + k) (pos 0)
+  stored-behind k =
+      let front : List ℤ = pos 1 ∷ gather (ruleOf d u) (from 0 r) in
+      let at : length front ≡ 4 * r + 1 = omega (arith, rules-long d u r) in
+      ap (λ l. getD l (4 * r + 1 + k) (pos 0)) (s .is) ∙ ap (λ n. getD (front ++ drop (4 * r + 1) c₀) (n + k) (pos 0)) (sym at) ∙ getD-append-add front (drop (4 * r + 1) c₀) k (pos 0)
+      ∙ getD-drop (4 * r + 1) c₀ k (pos 0)
+
+  here : getD c (4 * r + 1) (pos 0) ≡ getD c₀ (4 * r + 1) (pos 0)
+  here =
+      let o : 4 * r + 1 + 0 ≡ 4 * r + 1 = omega arith in
+      rw o at (stored-behind 0)
+
+  there : getD c (4 * r + 2) (pos 0) ≡ getD c₀ (4 * r + 2) (pos 0)
+  there =
+      let o : 4 * r + 1 + 1 ≡ 4 * r + 2 = omega arith in
+      rw o at (stored-behind 1)
+
+  -- two of the four stand there already
+  pub stored-up : {e f : ℤ} → r < m → getD c₀ (4 * r + 1) (pos 0) ≡ getD d r (pos 0) → getD c₀ (4 * r + 2) (pos 0) ≡ negℤ (getD d (8 + r) (pos 0)) → e ≡ getD u r (pos 0) → f ≡ negℤ (getD u (8 + r) (pos 0))
+      → Stored m d u c₀ (set (set c (4 * r + 3) e) (4 * r + 4) f) (r + 1)
+  stored-up {e} {f} h low high ee ef =
+      let a = getD c (4 * r + 1) (pos 0) in
+      let b = getD c (4 * r + 2) (pos 0) in
+      let same : set (set c (4 * r + 1) a) (4 * r + 2) b ≡ c = ap (λ l. set l (4 * r + 2) b) (set-getD c (4 * r + 1) (pos 0)) ∙ set-getD c (4 * r + 2) (pos 0) in
+      subst (λ l. Stored m d u c₀ (set (set l (4 * r + 3) e) (4 * r + 4) f) (r + 1)) same (stored-more h (here ∙ low) (there ∙ high) ee ef)
+
   pub stored-end : {a b : ℤ} → m ≤ r → far d ≡ false → far u ≡ false → a ≡ getD d 16 (pos 0) → b ≡ getD u 16 (pos 0) → set (set c (4 * m + 1) a) (4 * m + 2) b ≡ nodeLanes m d u
   stored-end {a} {b} h fd fu ea eb =
       let o : r ≡ m = omega (arith, s .done) in
@@ -152,6 +113,13 @@ module _ {m r : ℕ} {d u c₀ c : List ℤ} (s : Stored m d u c₀ c r) where
       rw (ea, eb, s .is, o, two, fd, fu) (
       laid-on front c₀ costs (4 * m + 1) (omega (arith, rules-long d u m)) (omega (arith, s .long)) ∙ rw none (append-nil (front ++ costs))
       )
+
+  pub stored-last : {b : ℤ} → m ≤ r → far d ≡ false → far u ≡ false → getD c₀ (4 * m + 1) (pos 0) ≡ getD d 16 (pos 0) → b ≡ getD u 16 (pos 0) → set c (4 * m + 2) b ≡ nodeLanes m d u
+  stored-last {b} h fd fu ea eb =
+      let o : r ≡ m = omega (arith, s .done) in
+      let a = getD c (4 * m + 1) (pos 0) in
+      let known : a ≡ getD c₀ (4 * m + 1) (pos 0) = rw o at here in
+      ap (λ l. set l (4 * m + 2) b) (sym (set-getD c (4 * m + 1) (pos 0))) ∙ stored-end h fd fu (known ∙ ea) eb
 
 -- none stored, for want of the down or of the up numbers
 module _ (m n : ℕ) (d u : List ℤ) {c : List ℤ} (long : n ≡ 4 * m + 3) (zeros : c ≡ replicate n (pos 0)) where
@@ -165,19 +133,63 @@ module _ (m n : ℕ) (d u : List ℤ) {c : List ℤ} (long : n ≡ 4 * m + 3) (z
       either true = refl
       either false = refl
 
--- ---- how great the numbers are that are read from a node's cells
-pub each-down : (m : ℕ) (c : List ℤ) → Each (Within 4000000) c → Each (Within 4000000) (downLanes m c)
-each-down m c h = go (eqZ (getD c 0 (pos 0)) (pos 0))
-  where
-    zero-in : Within 4000000 (pos 0)
-    zero-in = record { size = omega arith }
+-- ---- the down numbers that stand in cells
+abbrev pub low : List ℤ → ℕ → ℤ
+low c k = getD c (4 * k + 1) (pos 0)
 
-    all : (f : ℕ → ℤ) → ((k : ℕ) → Within 4000000 (f k)) → Each (Within 4000000) (padded 8 (pos 0) (map f (from 0 m)))
-    all f g = each-padded (Within 4000000) 8 (pos 0) (map f (from 0 m)) zero-in (each-map (λ k. Unit {0}) (Within 4000000) f (λ k t. g k) (from 0 m) (each-of (λ k. Unit {0}) (λ k. tt) (from 0 m)))
+abbrev pub high : List ℤ → ℕ → ℤ
+high c k = negℤ (getD c (4 * k + 2) (pos 0))
 
-    go : (t : Bool) → Each (Within 4000000) (cond t nowhere (lows c m ++ highs c m ++ (getD c (4 * m + 1) (pos 0) ∷ [])))
-    go true = each-replicate (Within 4000000) 17 (record { size = omega arith })
-    go false =
-        each-append (Within 4000000) (lows c m ++ highs c m) (getD c (4 * m + 1) (pos 0) ∷ [])
-        (each-append (Within 4000000) (lows c m) (highs c m) (all (low c) (λ k. lane-within c (4 * k + 1) h)) (all (high c) (λ k. within-neg (lane-within c (4 * k + 2) h) tt)))
-        (lane-within c (4 * m + 1) h, tt)
+abbrev pub lows : List ℤ → ℕ → List ℤ
+lows c r = padded 8 (pos 0) (map (low c) (from 0 r))
+
+abbrev pub highs : List ℤ → ℕ → List ℤ
+highs c r = padded 8 (pos 0) (map (high c) (from 0 r))
+
+-- a node that is there
+module _ (m : ℕ) (c : List ℤ) (there : eqZ (getD c 0 (pos 0)) (pos 0) ≡ false) where
+  pub down-is : downLanes m c ≡ lows c m ++ highs c m ++ (getD c (4 * m + 1) (pos 0) ∷ [])
+  down-is = cond-second (eqZ (getD c 0 (pos 0)) (pos 0)) nowhere (lows c m ++ highs c m ++ (getD c (4 * m + 1) (pos 0) ∷ [])) there
+
+  pub down-low : (r : ℕ) → m ≤ 8 → r < m → getD c (4 * r + 1) (pos 0) ≡ getD (downLanes m c) r (pos 0)
+  down-low r few h =
+      sym (ap (λ l. getD l r (pos 0)) down-is ∙ block-low (pos 0) (map (low c) (from 0 m)) (map (high c) (from 0 m)) (getD c (4 * m + 1) (pos 0)) r (omega arith) ∙ made-at (low c) m r (pos 0) h)
+
+  pub down-high : (r : ℕ) → m ≤ 8 → r < m → getD c (4 * r + 2) (pos 0) ≡ negℤ (getD (downLanes m c) (8 + r) (pos 0))
+  down-high r few h =
+      sym (ap (λ l. negℤ (getD l (8 + r) (pos 0))) down-is
+      ∙ ap negℤ (block-high (pos 0) (map (low c) (from 0 m)) (map (high c) (from 0 m)) (getD c (4 * m + 1) (pos 0)) r (omega arith) ∙ made-at (high c) m r (pos 0) h)
+      ∙ neg-neg (getD c (4 * r + 2) (pos 0)))
+
+  pub down-cost : getD c (4 * m + 1) (pos 0) ≡ getD (downLanes m c) 16 (pos 0)
+  down-cost = sym (ap (λ l. getD l 16 (pos 0)) down-is ∙ block-cost (pos 0) (map (low c) (from 0 m)) (map (high c) (from 0 m)) (getD c (4 * m + 1) (pos 0)) (pos 0))
+
+-- ---- cells that hold down numbers only
+module _ (m : ℕ) (c : List ℤ) (half : HalfNode m c) where
+  pub half-long : length c ≡ 4 * m + 3
+  half-long = ap length half ∙ node-long m (downLanes m c) (replicate 17 (pos 0))
+
+  -- none
+  pub half-none : (u : List ℤ) → eqZ (getD c 0 (pos 0)) (pos 0) ≡ true → c ≡ nodeLanes m (downLanes m c) u
+  half-none u e =
+      let none : downLanes m c ≡ nowhere = cond-first (eqZ (getD c 0 (pos 0)) (pos 0)) nowhere (lows c m ++ highs c m ++ (getD c (4 * m + 1) (pos 0) ∷ [])) e in
+      half ∙ ap (λ l. nodeLanes m l (replicate 17 (pos 0))) none ∙ sym (ap (λ l. nodeLanes m l u) none)
+
+  -- a node that is there has its numbers in reach
+  module _ (there : eqZ (getD c 0 (pos 0)) (pos 0) ≡ false) where
+    pub half-near : far (downLanes m c) ≡ false
+    half-near = go (far (downLanes m c)) refl
+      where
+        go : (t : Bool) → far (downLanes m c) ≡ t → t ≡ false
+        go true e =
+            let zeros : c ≡ replicate (4 * m + 3) (pos 0) = sym (no-down m (4 * m + 3) (downLanes m c) (replicate 17 (pos 0)) refl refl e ∙ sym half) in
+            let first : getD c 0 (pos 0) ≡ pos 0 = ap (λ l. getD l 0 (pos 0)) zeros ∙ getD-replicate (4 * m + 3) 0 (pos 0) (pos 0) (omega arith) in
+            sym (ap (λ z. eqZ z (pos 0)) first) ∙ there
+        go false e = refl
+
+    pub half-start : (u : List ℤ) → Stored m (downLanes m c) u c c 0
+    half-start u =
+        let d = downLanes m c in
+        let rest = gather (ruleOf d (replicate 17 (pos 0))) (from 0 m) ++ (getD d 16 (pos 0) ∷ pos 0 ∷ []) in
+        let e : c ≡ pos 1 ∷ rest = half ∙ rw half-near refl in
+        record { long = half-long; done = omega arith; is = e ∙ ap (λ l. pos 1 ∷ drop 1 l) (sym e) }

@@ -1,15 +1,13 @@
--- What does a buffer hold while a loop lays parts in it, one behind the other, and what is left to lay?
+-- What does a buffer hold while a loop lays elements or parts in it, one behind the other, and what is left to lay?
 use mathlib.Core.Path.{_≡_, refl, sym, ap, _∙_}
 use mathlib.Core.List.{List, [], _∷_, _++_, append-assoc, append-nil}
 use Prim.Native.Nat.{ℕ, suc, _+_, _-_, _*_, _≤_, _<_}
-use native.Mathlib.Nat.{suc-mul, mul-le-mul-right}
+use native.Mathlib.Nat.{zero-mul, suc-mul, mul-le-mul-right}
 use native.Mathlib.Numerals.{add-one}
 use native.Mathlib.Omega.{arith}
-use lib.ListN.{length, set, take, drop, replicate, length-append, length-drop, length-replicate, replicate-append-replicate, drop-of-length-le}
-use lib.Seq.{length-take-le, sets, sets-eq, paste, length-paste, take-paste, drop-paste, take-all, take-at, drop-append-add, drop-drop, take-add}
-use lib.IntN.{ℤ, pos}
+use lib.ListN.{length, getD, set, take, drop, replicate, take-append-drop, length-append, length-drop, length-replicate, getD-replicate}
+use lib.Seq.{length-take-le, sets, sets-eq, paste, length-paste, take-paste, drop-paste, take-all, take-at, take-suc, drop-length, drop-append-add, drop-drop, take-add, getD-take}
 use Rattle.laws.specs.Lists.{parted}
-use Rattle.laws.proofs.Each.{Each, each-drop}
 
 next-place : (j n : ℕ) → (j + 1) * n ≡ j * n + n
 next-place j n = rw add-one (suc-mul j n)
@@ -58,58 +56,98 @@ module _ {A : Type 0} where
     pub pasted-first : take ((j + 1) * n) (paste d (j * n) y n) ≡ take (j * n) d ++ y
     pasted-first = rw (next-place j n) (take-paste d (j * n) y n (omega (arith, inside)) (omega arith) ∙ ap (λ l. take (j * n) d ++ l) (take-all n y (omega arith)))
 
-    pub pasted-rest : drop ((j + 1) * n) (paste d (j * n) y n) ≡ drop ((j + 1) * n) d
+    pasted-rest : drop ((j + 1) * n) (paste d (j * n) y n) ≡ drop ((j + 1) * n) d
     pasted-rest = rw (next-place j n) (drop-paste d (j * n) y n (omega (arith, inside)) (omega arith))
 
     pub pasted-long : length (paste d (j * n) y n) ≡ length d
     pasted-long = length-paste d (j * n) y n inside (omega arith)
 
-    -- before what is still to be laid
-    pub pasted-on : (rest : List A) → take ((j + 1) * n) (paste d (j * n) y n) ++ rest ≡ take (j * n) d ++ (y ++ rest)
-    pasted-on rest = rw pasted-first (append-assoc (take (j * n) d) y rest)
+-- one part more of a list
+pub first-next : {A : Type 0} (l : List A) (j n : ℕ) → take ((j + 1) * n) l ≡ take (j * n) l ++ take n (drop (j * n) l)
+first-next l j n = rw (next-place j n) (take-add (j * n) n l)
 
-  -- all laid
-  pub whole : (w n j : ℕ) (d : List A) (rest : ℕ → List A) → j ≤ w → w ≤ j → length d ≡ w * n → rest 0 ≡ [] → take (j * n) d ++ rest (w - j) ≡ d
-  whole w n j d rest h k e z =
-      let o : w - j ≡ 0 = omega arith in
-      let p : j ≡ w = omega arith in
-      rw (o, z, p) (append-nil (take (w * n) d) ∙ take-all (w * n) d (omega arith))
+-- ---- a loop that lays part j of w parts of n elements each in its j-th turn: `rest j` is all that is to lay from part j on, c is what it has then
+pub record Laying {A : Type 0} (n w : ℕ) (rest : ℕ → List A) (d c : List A) (j : ℕ) : Type 0 where
+  pub done : j ≤ w
+  pub room : w * n ≤ length d
+  pub long : length c ≡ length d
+  pub left : drop (j * n) c ≡ drop (j * n) d
+  pub is : take (j * n) c ++ rest j ≡ rest 0
 
-  -- behind a part that is the rest of both
-  pub rest-next : (a b : List A) (j n : ℕ) → drop (j * n) a ≡ drop (j * n) b → drop ((j + 1) * n) a ≡ drop ((j + 1) * n) b
-  rest-next a b j n e = rw (next-place j n, ← drop-drop n (j * n) a, ← drop-drop n (j * n) b) (ap (drop n) e)
+module _ {A : Type 0} {n w : ℕ} {rest : ℕ → List A} {d : List A} where
+  pub laying-start : w * n ≤ length d → Laying n w rest d d 0
+  laying-start h = record { done = omega arith; room = h; long = refl; left = refl; is = rw (zero-mul n) refl }
 
-  pub rest-last : (a b : List A) (w n j : ℕ) → j < w → drop ((j + 1) * n) a ≡ drop ((j + 1) * n) b → drop (w * n) a ≡ drop (w * n) b
-  rest-last a b w n j h e =
-      let k = w * n - (j + 1) * n in
-      let place : (j + 1) * n + k ≡ w * n = omega (arith, next-place j n, place-in w n j h) in
-      rw (← place, ← drop-drop k ((j + 1) * n) a, ← drop-drop k ((j + 1) * n) b) (ap (drop k) e)
+  module _ {c : List A} {j : ℕ} (l : Laying n w rest d c j) where
+    pub laying-place : j < w → j * n + n ≤ length c
+    laying-place h = omega (arith, l .room, l .long, place-in w n j h)
 
-  pub first-next : (l : List A) (j n : ℕ) → take ((j + 1) * n) l ≡ take (j * n) l ++ take n (drop (j * n) l)
-  first-next l j n = rw (next-place j n) (take-add (j * n) n l)
+    -- part j is still what it was
+    pub laying-part : take (j * n + n - j * n) (drop (j * n) c) ≡ take n (drop (j * n) d)
+    laying-part = part-is (j * n) n c ∙ ap (take n) (l .left)
 
-  pub each-rest : (P : A → Type 0) (l : List A) (j n : ℕ) → Each P (drop (j * n) l) → Each P (drop ((j + 1) * n) l)
-  each-rest P l j n h = rw (next-place j n, ← drop-drop n (j * n) l) (each-drop P n (drop (j * n) l) h)
+    -- y comes there, which is x
+    pub laying-more : {y : List A} (x : List A) → j < w → y ≡ x → length x ≡ n → rest j ≡ x ++ rest (j + 1) → Laying n w rest d (put c (j * n) n y) (j + 1)
+    laying-more x h same e next =
+        let room : w * n ≤ length c = omega (arith, l .room, l .long) in
+        rw (same, put-pastes c x (j * n) n e) (record {
+          done = omega arith;
+          room = l .room;
+          long = pasted-long c x w n j h room e ∙ l .long;
+          left = pasted-rest c x w n j h room e ∙ rw (next-place j n, ← drop-drop n (j * n) c, ← drop-drop n (j * n) d) (ap (drop n) (l .left));
+          is = ap (λ r. r ++ rest (j + 1)) (pasted-first c x w n j h room e) ∙ append-assoc (take (j * n) c) x (rest (j + 1)) ∙ ap (λ r. take (j * n) c ++ r) (sym next) ∙ l .is;
+        })
 
--- ---- a loop that lays a zero in every place: c is what it has after k of them
-pub record Zeroed (d c : List ℤ) (k : ℕ) : Type 0 where
-  pub done : k ≤ length d
-  pub is : c ≡ replicate k (pos 0) ++ drop k d
+    pub laying-end : w ≤ j → rest w ≡ [] → c ≡ rest 0 ++ drop (w * n) d
+    laying-end h none =
+        let o : j ≡ w = omega (arith, l .done) in
+        let first : take (w * n) c ≡ rest 0 = sym (append-nil (take (w * n) c)) ∙ ap (λ r. take (w * n) c ++ r) (sym none) ∙ rw o at (l .is) in
+        sym (take-append-drop (w * n) c) ∙ (λ i. first i ++ (rw o at (l .left)) i)
 
-pub zeroed-start : (d : List ℤ) → Zeroed d d 0
-zeroed-start d = record { done = omega arith; is = refl }
+    -- nothing stands behind the parts
+    pub laying-all : w ≤ j → rest w ≡ [] → length d ≡ w * n → c ≡ rest 0
+    laying-all h none e = laying-end h none ∙ rw (← e, drop-length d) (append-nil (rest 0))
 
-module _ {d c : List ℤ} {k : ℕ} (s : Zeroed d c k) where
-  pub zeroed-long : length c ≡ length d
-  zeroed-long = rw (s .is) (length-append (replicate k (pos 0)) (drop k d) ∙ omega (arith, length-replicate k (pos 0), length-drop k d, s .done))
+-- ---- a loop that lays the elements of s over d, one in a turn: c is what it has after k of them
+pub record Copied {A : Type 0} (s d c : List A) (k : ℕ) : Type 0 where
+  pub done : k ≤ length s
+  pub room : length s ≤ length d
+  pub is : c ≡ take k s ++ drop k d
 
-  pub zeroed-more : k < length c → Zeroed d (set c k (pos 0)) (k + 1)
-  zeroed-more h = record {
-    done = omega (arith, zeroed-long);
-    is = rw (s .is) (laid-on (replicate k (pos 0)) d (pos 0 ∷ []) k (length-replicate k (pos 0)) (omega (arith, zeroed-long)) ∙ ap (λ l. l ++ drop (k + 1) d) (replicate-append-replicate k 1 (pos 0)));
-  }
+module _ {A : Type 0} {s d : List A} where
+  pub copied-start : length s ≤ length d → Copied s d d 0
+  copied-start h = record { done = omega arith; room = h; is = refl }
 
-  pub zeroed-end : length c ≤ k → c ≡ replicate (length d) (pos 0)
-  zeroed-end h =
-      let all : k ≡ length d = omega (arith, s .done, zeroed-long) in
-      s .is ∙ rw (drop-of-length-le d {i = k} (omega arith), all) (append-nil (replicate (length d) (pos 0)))
+  module _ {c : List A} {k : ℕ} (l : Copied s d c k) where
+    pub copied-long : length c ≡ length d
+    copied-long = ap length (l .is) ∙ length-append (take k s) (drop k d) ∙ omega (arith, l .done, l .room, length-take-le k s (l .done), length-drop k d)
+
+    copied-more : {a : A} (z : A) → k < length s → a ≡ getD s k z → Copied s d (set c k a) (k + 1)
+    copied-more {a} z h e =
+        let more : take k s ++ a ∷ [] ≡ take (k + 1) s = rw (e, add-one) (sym (take-suc s k z h)) in
+        record {
+          done = omega arith;
+          room = l .room;
+          is = ap (λ r. set r k a) (l .is) ∙ laid-on (take k s) d (a ∷ []) k (length-take-le k s (l .done)) (omega (arith, l .room)) ∙ ap (λ r. r ++ drop (k + 1) d) more;
+        }
+
+    pub copied-end : length s ≤ k → c ≡ s ++ drop (length s) d
+    copied-end h =
+        let o : k ≡ length s = omega (arith, l .done) in
+        l .is ∙ rw o (ap (λ r. r ++ drop (length s) d) (take-all (length s) s (omega arith)))
+
+-- the first n elements of a list
+pub part-more : {A : Type 0} (n : ℕ) (s : List A) {d c : List A} {k : ℕ} {a : A} (z : A) → n ≤ length s → Copied (take n s) d c k → k < n → a ≡ getD s k z → Copied (take n s) d (set c k a) (k + 1)
+part-more n s {k = k} z h l b e = copied-more l z (omega (arith, length-take-le n s h)) (e ∙ sym (getD-take n s k z b))
+
+-- n times the same
+module _ {A : Type 0} (n : ℕ) (z : A) {d : List A} where
+  pub filled-start : n ≤ length d → Copied (replicate n z) d d 0
+  filled-start h = copied-start (omega (arith, length-replicate n z))
+
+  module _ {c : List A} {k : ℕ} (l : Copied (replicate n z) d c k) where
+    pub filled-more : {a : A} → k < n → a ≡ z → Copied (replicate n z) d (set c k a) (k + 1)
+    filled-more b e = copied-more l z (omega (arith, length-replicate n z)) (e ∙ sym (getD-replicate n k z z b))
+
+    pub filled-end : n ≤ k → c ≡ replicate n z ++ drop n d
+    filled-end h = copied-end l (omega (arith, length-replicate n z)) ∙ ap (λ j. replicate n z ++ drop j d) (length-replicate n z)

@@ -2,7 +2,7 @@
 use mathlib.Core.Path.{_≡_, sym, ap, _∙_}
 use mathlib.Core.Bool.{true, false}
 use mathlib.Core.List.{List}
-use Prim.Native.Nat.{ℕ, zero, suc, _^_, _≤_, _<_}
+use Prim.Native.Nat.{ℕ, zero, suc, _+_, _^_, _≤_, _<_}
 use native.Mathlib.Omega.{arith}
 use lib.ListN.{getD, drop, replicate}
 use lib.IntN.{ℤ, pos}
@@ -14,6 +14,7 @@ use Rattle.laws.specs.Z.{Within, widen, eqZ, eqZ-yes, eqZ-no, told}
 use Rattle.laws.proofs.Each.{Each, each-at, each-more, each-take, each-drop}
 use Rattle.lent.specs.Lanes.{lanesAt}
 use Rattle.lent.specs.Passes.{Bytes, far}
+use Rattle.lanes.proofs.Laws.{lane-at}
 
 pub wide : (x : List ℤ) → Each (Within 4000000) x → Each (Within 10000000) x
 wide x h = each-more (Within 4000000) (Within 10000000) (λ z k. widen tt k) x h
@@ -41,3 +42,10 @@ far-yes y h e = bits-yes (getD y 16 (pos 0)) 4000000 h (omega arith) e
 
 pub far-no : (y : List ℤ) → (ofZ w32 (getD y 16 (pos 0)) ≡ 4000000 → ⊥) → far y ≡ false
 far-no y f = bits-no (getD y 16 (pos 0)) 4000000 f
+
+-- the same by a lane of a row
+pub far-at-yes : (row : List ℤ) (at : ℕ) → mag (getD row (at + 16) (pos 0)) < 2 ^ 31 → ofZ w32 (getD row (at + 16) (pos 0)) ≡ 4000000 → far (lanesAt row at) ≡ true
+far-at-yes row at h e = rw (lane-at row at 16 (omega arith)) (bits-yes (getD row (at + 16) (pos 0)) 4000000 h (omega arith) e)
+
+pub far-at-no : (row : List ℤ) (at : ℕ) → (ofZ w32 (getD row (at + 16) (pos 0)) ≡ 4000000 → ⊥) → far (lanesAt row at) ≡ false
+far-at-no row at f = rw (lane-at row at 16 (omega arith)) (bits-no (getD row (at + 16) (pos 0)) 4000000 f)

@@ -1,87 +1,121 @@
--- What do a layer's cells hold while a loop over its nodes lays them, and what is left to lay?
+-- What is left to lay of a layer's cells, rooms, up numbers or bytes from node j on?
 use mathlib.Core.Path.{_≡_, refl, sym, ap, _∙_}
-use mathlib.Core.List.{List, _∷_, _++_, map}
-use Prim.Native.Nat.{ℕ, suc, _+_, _-_, _*_, _≤_, _<_}
-use native.Mathlib.Nat.{zero-mul}
+use mathlib.Core.List.{List, [], _∷_, _++_, map, append-assoc}
+use Prim.Native.Nat.{ℕ, zero, suc, _+_, _-_, _*_, _<_}
+use native.Mathlib.Nat.{zero-mul, suc-mul}
 use native.Mathlib.Numerals.{add-one}
 use native.Mathlib.Omega.{arith}
-use lib.ListN.{length, take, drop, replicate}
-use lib.IntN.{ℤ, pos}
-use Rattle.laws.specs.Z.{Within}
+use lib.ListN.{length, take, drop, length-append, length-drop}
+use lib.Seq.{length-take-le, take-at, drop-at}
+use lib.IntN.{ℤ}
 use Rattle.laws.specs.Lists.{flat, from, parted}
-use Rattle.laws.proofs.Each.{Each}
+use Rattle.laws.proofs.Each.{Each, each-below, each-take, each-drop}
+use Rattle.laws.proofs.Filled.{take-within, getD-parted}
 use Rattle.lent.specs.Lanes.{lanesAt}
-use Rattle.lent.specs.Passes.{nodeLanes, downLanes, downCells, upCells}
-use Rattle.rows.proofs.Laid.{part-is, place-in, parted-next, put, put-pastes, pasted-rest, pasted-long, pasted-on, whole, each-rest}
-use Rattle.lent.proofs.Whole.{node-long}
+use Rattle.lent.specs.Passes.{nodeLanes, downLanes, downCells, upCells, testNode, testLayer}
+use Rattle.lent.proofs.Whole.{parted-count}
+use Rattle.rows.proofs.Laid.{place-in, parted-next}
 
-from-next : (w j : ℕ) → j < w → from j (w - j) ≡ j ∷ from (j + 1) (w - (j + 1))
-from-next w j h =
-    let o : w - j ≡ suc (w - (j + 1)) = omega arith in
-    rw (o, add-one) refl
+-- all parts of a list, and none
+module _ {A : Type 0} (w n : ℕ) (l : List A) where
+  abbrev pub left : ℕ → List (List A)
+  left j = parted (w - j) n (drop (j * n) l)
 
--- ---- down: c is what the cells hold after j nodes
-pub record Downs (m w : ℕ) (here c : List ℤ) (j : ℕ) : Type 0 where
-  pub done : j ≤ w
-  pub long : length c ≡ w * (4 * m + 3)
-  pub is : take (j * (4 * m + 3)) c ++ flat (map (downCells m here) (from j (w - j))) ≡ flat (map (downCells m here) (from 0 w))
+  left-all : left 0 ≡ parted w n l
+  left-all =
+      let o : w - 0 ≡ w = omega arith in
+      rw (zero-mul n, o) refl
 
-pub downs-start : (m w : ℕ) (here c : List ℤ) → length c ≡ w * (4 * m + 3) → Downs m w here c 0
-downs-start m w here c e =
-    let o : w - 0 ≡ w = omega arith in
-    record { done = omega arith; long = e; is = rw (zero-mul (4 * m + 3), o) refl }
+  left-none : left w ≡ []
+  left-none =
+      let o : w - w ≡ 0 = omega arith in
+      rw o refl
 
-module _ {m w j : ℕ} {here c : List ℤ} (s : Downs m w here c j) where
-  pub downs-place : j < w → j * (4 * m + 3) + (4 * m + 3) ≤ length c
-  downs-place h = omega (arith, s .long, place-in w (4 * m + 3) j h)
+-- what holds of each part, or of each element of the parts, at part j
+pub each-part : {A : Type 0} (P : List A → Type 0) (w n : ℕ) (l : List A) (j : ℕ) → j < w → Each P (parted w n l) → P (take n (drop (j * n) l))
+each-part P w n l j h e = rw (getD-parted w n j l h) at (each-below P (parted w n l) j [] (omega (arith, parted-count w n l)) e)
 
-  pub downs-more : {x y : List ℤ} → j < w → x ≡ lanesAt here (j * 17) → y ≡ nodeLanes m x (replicate 17 (pos 0)) → Downs m w here (put c (j * (4 * m + 3)) (4 * m + 3) y) (j + 1)
-  downs-more {x} {y} h ex ey =
-      let long : length y ≡ 4 * m + 3 = ap length ey ∙ node-long m x (replicate 17 (pos 0)) in
-      let room : w * (4 * m + 3) ≤ length c = omega (arith, s .long) in
-      let f = flat (map (downCells m here) (from (j + 1) (w - (j + 1)))) in
-      rw (put-pastes c y (j * (4 * m + 3)) (4 * m + 3) long) (record {
-        done = omega arith;
-        long = pasted-long c y w (4 * m + 3) j h room long ∙ s .long;
-        is = pasted-on c y w (4 * m + 3) j h room long f ∙ rw (ey, ex) (rw (from-next w j h) at (s .is));
-      })
+pub each-in-part : {A : Type 0} (P : A → Type 0) (w n : ℕ) (l : List A) (j : ℕ) → j < w → Each P (take (w * n) l) → Each P (take n (drop (j * n) l))
+each-in-part P w n l j h e =
+    rw (take-within (j * n) n (w * n) l (place-in w n j h)) at (each-take P n (drop (j * n) (take (w * n) l)) (each-drop P (j * n) (take (w * n) l) e))
 
-  pub downs-end : w ≤ j → c ≡ flat (map (downCells m here) (from 0 w))
-  downs-end h = sym (whole w (4 * m + 3) j c (λ k. flat (map (downCells m here) (from j k))) (s .done) h (s .long) refl) ∙ s .is
+-- w parts of n elements each, of whose elements something holds
+pub parted-each : {A : Type 0} (P : A → Type 0) (w n : ℕ) (l : List A) → length l ≡ w * n → Each P l → Each (λ x. (length x ≡ n) × Each P x) (parted w n l)
+parted-each P zero n l e h = tt
+parted-each P (suc w) n l e h =
+    let m = suc-mul w n in
+    ((length-take-le n l (omega arith), each-take P n l h), parted-each P w n (drop n l) (omega (arith, length-drop n l)) (each-drop P n l h))
 
--- ---- up, beside the down numbers that stand there
-pub record Ups (m w : ℕ) (here c₀ c : List ℤ) (j : ℕ) : Type 0 where
-  pub done : j ≤ w
-  pub long : length c ≡ w * (4 * m + 3)
-  pub inside : Each (Within 4000000) (drop (j * (4 * m + 3)) c)
-  pub is : take (j * (4 * m + 3)) c ++ flat (upCells m here j (parted (w - j) (4 * m + 3) (drop (j * (4 * m + 3)) c))) ≡ flat (upCells m here 0 (parted w (4 * m + 3) c₀))
+pub length-flat : {A : Type 0} (n : ℕ) (ls : List (List A)) → Each (λ l. length l ≡ n) ls → length (flat ls) ≡ length ls * n
+length-flat n [] e = sym (zero-mul n)
+length-flat n (l ∷ ls) e = length-append l (flat ls) ∙ omega (arith, e .0, length-flat n ls (e .1), suc-mul (length ls) n)
 
-pub ups-start : (m w : ℕ) (here c : List ℤ) → length c ≡ w * (4 * m + 3) → Each (Within 4000000) c → Ups m w here c c 0
-ups-start m w here c e k =
-    let o : w - 0 ≡ w = omega arith in
-    record { done = omega arith; long = e; inside = rw (zero-mul (4 * m + 3)) k; is = rw (zero-mul (4 * m + 3), o) refl }
+-- parts of n elements each, put together and cut again; what stands behind them is not seen
+pub parted-back : {A : Type 0} (n : ℕ) (ls : List (List A)) (rest : List A) → Each (λ l. length l ≡ n) ls → parted (length ls) n (flat ls ++ rest) ≡ ls
+parted-back n [] rest e = refl
+parted-back n (l ∷ ls) rest e =
+    rw (append-assoc l (flat ls) rest, take-at l (flat ls ++ rest) n (e .0), drop-at l (flat ls ++ rest) n (e .0)) (ap (λ r. l ∷ r) (parted-back n ls rest (e .1)))
 
-module _ {m w j : ℕ} {here c₀ c : List ℤ} (s : Ups m w here c₀ c j) where
-  pub ups-place : j < w → j * (4 * m + 3) + (4 * m + 3) ≤ length c
-  ups-place h = omega (arith, s .long, place-in w (4 * m + 3) j h)
+-- ---- what f makes of each part
+module _ {A B : Type 0} (f : List A → List B) (w n : ℕ) (l : List A) where
+  abbrev pub made : ℕ → List B
+  made j = flat (map f (left w n l j))
 
-  pub ups-more : {d x y : List ℤ} → j < w → d ≡ downLanes m (take (j * (4 * m + 3) + (4 * m + 3) - j * (4 * m + 3)) (drop (j * (4 * m + 3)) c)) → x ≡ lanesAt here (j * 17) → y ≡ nodeLanes m d x
-      → Ups m w here c₀ (put c (j * (4 * m + 3)) (4 * m + 3) y) (j + 1)
-  ups-more {d} {x} {y} h ed ex ey =
-      let at = j * (4 * m + 3) in
-      let long : length y ≡ 4 * m + 3 = ap length ey ∙ node-long m d x in
-      let room : w * (4 * m + 3) ≤ length c = omega (arith, s .long) in
+  pub made-next : (j : ℕ) → j < w → made j ≡ f (take n (drop (j * n) l)) ++ made (j + 1)
+  made-next j h = rw (parted-next w n j l h) refl
+
+  pub made-none : made w ≡ []
+  made-none = ap (λ p. flat (map f p)) (left-none w n l)
+
+  pub made-all : made 0 ≡ flat (map f (parted w n l))
+  made-all = ap (λ p. flat (map f p)) (left-all w n l)
+
+-- ---- down
+module _ (m w : ℕ) (here : List ℤ) where
+  abbrev pub downsLeft : ℕ → List ℤ
+  downsLeft j = flat (map (downCells m here) (from j (w - j)))
+
+  pub downs-next : (j : ℕ) → j < w → downsLeft j ≡ downCells m here j ++ downsLeft (j + 1)
+  downs-next j h =
+      let o : w - j ≡ suc (w - (j + 1)) = omega arith in
+      rw (o, add-one) refl
+
+  pub downs-none : downsLeft w ≡ []
+  downs-none =
+      let o : w - w ≡ 0 = omega arith in
+      rw o refl
+
+  pub downs-all : downsLeft 0 ≡ flat (map (downCells m here) (from 0 w))
+  downs-all =
+      let o : w - 0 ≡ w = omega arith in
+      rw o refl
+
+-- ---- up, beside the down numbers that stand in the cells c
+module _ (m w : ℕ) (here c : List ℤ) where
+  abbrev pub upsLeft : ℕ → List ℤ
+  upsLeft j = flat (upCells m here j (left w (4 * m + 3) c j))
+
+  pub ups-next : (j : ℕ) → j < w → upsLeft j ≡ nodeLanes m (downLanes m (take (4 * m + 3) (drop (j * (4 * m + 3)) c))) (lanesAt here (j * 17)) ++ upsLeft (j + 1)
+  ups-next j h =
       let one : j + 1 ≡ suc j = add-one j in
-      let made : y ≡ nodeLanes m (downLanes m (take (4 * m + 3) (drop at c))) (lanesAt here (j * 17)) = ey ∙ rw (ex, ed, part-is at (4 * m + 3) c) refl in
-      let rest = flat (upCells m here (j + 1) (parted (w - (j + 1)) (4 * m + 3) (drop ((j + 1) * (4 * m + 3)) c))) in
-      let next : flat (upCells m here j (parted (w - j) (4 * m + 3) (drop at c))) ≡ y ++ rest =
-      rw (parted-next w (4 * m + 3) j c h, made, one) refl in
-      rw (put-pastes c y at (4 * m + 3) long) (record {
-        done = omega arith;
-        long = pasted-long c y w (4 * m + 3) j h room long ∙ s .long;
-        inside = rw (pasted-rest c y w (4 * m + 3) j h room long) (each-rest (Within 4000000) c j (4 * m + 3) (s .inside));
-        is = rw (pasted-rest c y w (4 * m + 3) j h room long) (pasted-on c y w (4 * m + 3) j h room long rest ∙ ap (λ l. take at c ++ l) (sym next) ∙ s .is);
-      })
+      rw (parted-next w (4 * m + 3) j c h, one) refl
 
-  pub ups-end : w ≤ j → c ≡ flat (upCells m here 0 (parted w (4 * m + 3) c₀))
-  ups-end h = sym (whole w (4 * m + 3) j c (λ k. flat (upCells m here j (parted k (4 * m + 3) (drop (j * (4 * m + 3)) c)))) (s .done) h (s .long) refl) ∙ s .is
+  pub ups-none : upsLeft w ≡ []
+  ups-none = ap (λ p. flat (upCells m here w p)) (left-none w (4 * m + 3) c)
+
+  pub ups-all : upsLeft 0 ≡ flat (upCells m here 0 (parted w (4 * m + 3) c))
+  ups-all = ap (λ p. flat (upCells m here 0 p)) (left-all w (4 * m + 3) c)
+
+-- ---- the bytes that remain
+module _ (w : ℕ) (row next : List ℤ) (arcs : List ℕ) (room : List ℤ) where
+  abbrev pub testsLeft : ℕ → List ℕ
+  testsLeft j = flat (testLayer row next (left w 8 arcs j) (left w 17 room j))
+
+  pub tests-next : (j : ℕ) → j < w → testsLeft j ≡ testNode row next (lanesAt room (j * 17)) 0 (take 8 (drop (j * 8) arcs)) ++ testsLeft (j + 1)
+  tests-next j h = rw (parted-next w 8 j arcs h, parted-next w 17 j room h) refl
+
+  pub tests-none : testsLeft w ≡ []
+  tests-none = ap (λ p. flat (testLayer row next p (left w 17 room w))) (left-none w 8 arcs)
+
+  pub tests-all : testsLeft 0 ≡ flat (testLayer row next (parted w 8 arcs) (parted w 17 room))
+  tests-all = (λ i. flat (testLayer row next (left-all w 8 arcs i) (left-all w 17 room i)))

@@ -9,42 +9,58 @@ use borrow.Author.Tests.{eq-eqb, ne-eqb}
 use lib.Dec.{eqb}
 use lib.ListN.{length, getD, set, take, drop, length-set, drop-of-length-le}
 use lib.Seq.{length-take-le, take-all, take-suc, take-suc-set, drop-cons, drop-set-lt, drop-drop, getD-drop, set-getD, append-snoc}
-use lib.IntN.{ℤ}
-use Rattle.laws.specs.Z.{Within, widen}
-use Rattle.laws.specs.Lists.{same}
+use lib.IntN.{ℤ, _+ℤ_}
+use Rattle.laws.specs.Z.{minZ, Within, widen}
+use Rattle.laws.specs.Lists.{flat, same}
 use Rattle.laws.proofs.Lists.{and-true, and-false}
-use Rattle.laws.proofs.Each.{Each, each-more}
-use Rattle.lent.specs.Lanes.{lanesAt, sums, leasts, atMost}
-use Rattle.lent.specs.Passes.{Bytes, far, nowhere, arcLanes, raise, raiseNode, testByte, testNode}
-use Rattle.lanes.proofs.Laws.{each-sums, each-leasts}
+use Rattle.laws.proofs.Each.{Each, each-append, each-more}
+use Rattle.lent.specs.Lanes.{lanesAt, leasts, atMost}
+use Rattle.lent.specs.Passes.{Bytes, far, nowhere, arcLanes, raise, raiseNode, raiseLayer, testByte, testNode}
+use Rattle.lanes.proofs.Laws.{length-lanes, length-zipped, each-sums, each-leasts}
 use Rattle.rows.proofs.Lanes.{each-replicate, each-lanes, byte-at}
-
--- ---- an arc: y stands at its child, s at its step
-module _ (row next : List ℤ) (v k : ℕ) where
-  pub arc-none : {y : List ℤ} → y ≡ lanesAt next (k * 17) → far y ≡ true → nowhere ≡ arcLanes row next v k
-  arc-none e f = sym (rw (rw e at f) refl)
-
-  pub arc-sum : {y s z : List ℤ} → y ≡ lanesAt next (k * 17) → far y ≡ false → s ≡ lanesAt row (v * 17) → z ≡ sums y s → z ≡ arcLanes row next v k
-  arc-sum {y} {s} e f d h = h ∙ rw (d, e, rw e at f) refl
 
 -- ---- how great up numbers are
 module _ (row next : List ℤ) (low : Each (Within 4000000) row) (far-low : Each (Within 4000000) next) where
-  pub each-arc : (v k : ℕ) → Each (Within 10000000) (arcLanes row next v k)
-  each-arc v k = go (far (lanesAt next (k * 17)))
-    where
-      go : (t : Bool) → Each (Within 10000000) (cond t nowhere (sums (lanesAt next (k * 17)) (lanesAt row (v * 17))))
-      go true = each-replicate (Within 10000000) 17 (record { size = omega arith })
-      go false =
-          each-more (Within 8000000) (Within 10000000) (λ z h. widen tt h) (sums (lanesAt next (k * 17)) (lanesAt row (v * 17)))
-          (each-sums 4000000 4000000 (lanesAt next (k * 17)) (lanesAt row (v * 17)) (each-lanes next (k * 17) far-low) (each-lanes row (v * 17) low))
+  each-arc : (v k : ℕ) → Each (Within 10000000) (arcLanes row next v k)
+  each-arc v k =
+      each-more (Within 8000000) (Within 10000000) (λ z h. widen tt h) (arcLanes row next v k)
+      (each-sums 4000000 4000000 (lanesAt next (k * 17)) (lanesAt row (v * 17)) (each-lanes next (k * 17) far-low) (each-lanes row (v * 17) low))
 
   each-raise : (v : ℕ) (bs : List ℕ) (up : List ℤ) → Each (Within 10000000) up → Each (Within 10000000) (raiseNode row next v bs up)
   each-raise v [] up h = h
   each-raise v (zero ∷ bs) up h = each-raise (suc v) bs up h
-  each-raise v (suc k ∷ bs) up h = each-raise (suc v) bs (leasts up (arcLanes row next v k)) (each-leasts (Within 10000000) up (arcLanes row next v k) h (each-arc v k))
+  each-raise v (suc k ∷ bs) up h = each-raise (suc v) bs (raise row next v (suc k) up) (go (far (lanesAt next (k * 17))))
+    where
+      go : (t : Bool) → Each (Within 10000000) (cond t up (leasts up (arcLanes row next v k)))
+      go true = h
+      go false = each-leasts (Within 10000000) up (arcLanes row next v k) h (each-arc v k)
 
-  pub each-up : (bs : List ℕ) → Each (Within 10000000) (raiseNode row next 0 bs nowhere)
+  each-up : (bs : List ℕ) → Each (Within 10000000) (raiseNode row next 0 bs nowhere)
   each-up bs = each-raise 0 bs nowhere (each-replicate (Within 10000000) 17 (record { size = omega arith }))
+
+  pub each-layer : (l : List (List ℕ)) → Each (Within 10000000) (flat (raiseLayer row next l))
+  each-layer [] = tt
+  each-layer (bs ∷ l) = each-append (Within 10000000) (raiseNode row next 0 bs nowhere) (flat (raiseLayer row next l)) (each-up bs) (each-layer l)
+
+-- ---- up numbers have 17 lanes
+module _ (row next : List ℤ) (slot : length row ≡ 136) (wide : length next ≡ 272) where
+  raise-long : (v : ℕ) (bs : List ℕ) (up : List ℤ) → v + length bs ≤ 8 → Bytes bs → length up ≡ 17 → length (raiseNode row next v bs up) ≡ 17
+  raise-long v [] up h b e = e
+  raise-long v (zero ∷ bs) up h b e = raise-long (suc v) bs up (omega arith) (b .1) e
+  raise-long v (suc k ∷ bs) up h b e = raise-long (suc v) bs (raise row next v (suc k) up) (omega arith) (b .1) (go (far (lanesAt next (k * 17))))
+    where
+      arc : length (arcLanes row next v k) ≡ 17
+      arc =
+          let y = length-lanes next (k * 17) (omega (arith, b .0)) in
+          let s = length-lanes row (v * 17) (omega arith) in
+          length-zipped _+ℤ_ (lanesAt next (k * 17)) (lanesAt row (v * 17)) (y ∙ sym s) ∙ y
+
+      go : (t : Bool) → length (cond t up (leasts up (arcLanes row next v k))) ≡ 17
+      go true = e
+      go false = length-zipped minZ up (arcLanes row next v k) (e ∙ sym arc) ∙ e
+
+  pub rises-long : (bs : List ℕ) → length bs ≡ 8 → Bytes bs → length (raiseNode row next 0 bs nowhere) ≡ 17
+  rises-long bs e b = raise-long 0 bs nowhere (omega arith) b refl
 
 -- ---- bytes that have not changed
 and-assoc : (a b c : Bool) → (a && (b && c)) ≡ ((a && b) && c)
@@ -57,23 +73,23 @@ same-append [] (y ∷ b) c d e = absurd (omega arith)
 same-append (x ∷ a) [] c d e = absurd (omega arith)
 same-append (x ∷ a) (y ∷ b) c d e = ap (λ t. eqb x y && t) (same-append a b c d (omega arith)) ∙ and-assoc (eqb x y) (same a b) (same c d)
 
-pub length-test : (row next down limit : List ℤ) (v : ℕ) (bs : List ℕ) → length (testNode row next down limit v bs) ≡ length bs
-length-test row next down limit v [] = refl
-length-test row next down limit v (b ∷ bs) = ap suc (length-test row next down limit (suc v) bs)
+pub length-test : (row next room : List ℤ) (v : ℕ) (bs : List ℕ) → length (testNode row next room v bs) ≡ length bs
+length-test row next room v [] = refl
+length-test row next room v (b ∷ bs) = ap suc (length-test row next room (suc v) bs)
 
 -- ---- a node's arcs: bs, up and fell are what the loop has after v of them
-pub record Tested (row next down limit : List ℤ) (bs₀ bs : List ℕ) (up : List ℤ) (fell : Bool) (v : ℕ) : Type 0 where
+pub record Tested (row next room : List ℤ) (bs₀ bs : List ℕ) (up : List ℤ) (fell : Bool) (v : ℕ) : Type 0 where
   pub done : v ≤ 8
   pub long : length bs ≡ length bs₀
   pub rest : drop v bs ≡ drop v bs₀
   pub ups : raiseNode row next v (drop v bs) up ≡ raiseNode row next 0 bs₀ nowhere
-  pub bytes : take v bs ++ testNode row next down limit v (drop v bs) ≡ testNode row next down limit 0 bs₀
+  pub bytes : take v bs ++ testNode row next room v (drop v bs) ≡ testNode row next room 0 bs₀
   pub falls : fell ≡ not (same (take v bs₀) (take v bs))
 
-pub tested-start : (row next down limit : List ℤ) (bs : List ℕ) → Tested row next down limit bs bs nowhere false 0
-tested-start row next down limit bs = record { done = omega arith; long = refl; rest = refl; ups = refl; bytes = refl; falls = refl }
+pub tested-start : (row next room : List ℤ) (bs : List ℕ) → Tested row next room bs bs nowhere false 0
+tested-start row next room bs = record { done = omega arith; long = refl; rest = refl; ups = refl; bytes = refl; falls = refl }
 
-module _ {row next down limit up : List ℤ} {bs₀ bs : List ℕ} {fell : Bool} {v : ℕ} (s : Tested row next down limit bs₀ bs up fell v) (wide : length bs₀ ≡ 8) where
+module _ {row next room up : List ℤ} {bs₀ bs : List ℕ} {fell : Bool} {v : ℕ} (s : Tested row next room bs₀ bs up fell v) (wide : length bs₀ ≡ 8) where
   -- the byte is the one that stood there
   old : getD bs v 0 ≡ getD bs₀ v 0
   old =
@@ -83,8 +99,8 @@ module _ {row next down limit up : List ℤ} {bs₀ bs : List ℕ} {fell : Bool}
   pub tested-byte : Bytes bs₀ → getD bs v 0 ≤ 16
   tested-byte h = rw old (byte-at bs₀ v h)
 
-  turn : (t : ℕ) {up′ : List ℤ} {fell′ : Bool} → v < 8 → t ≡ testByte row next down limit v (getD bs v 0) → up′ ≡ raise row next v (getD bs v 0) up
-      → fell′ ≡ not (same (take v bs₀) (take v bs) && eqb (getD bs v 0) t) → Tested row next down limit bs₀ (set bs v t) up′ fell′ (v + 1)
+  turn : (t : ℕ) {up′ : List ℤ} {fell′ : Bool} → v < 8 → t ≡ testByte row next room v (getD bs v 0) → up′ ≡ raise row next v (getD bs v 0) up
+      → fell′ ≡ not (same (take v bs₀) (take v bs) && eqb (getD bs v 0) t) → Tested row next room bs₀ (set bs v t) up′ fell′ (v + 1)
   turn t {up′} {fell′} h et eu ef =
       let one : v + 1 ≡ suc v = add-one v in
       let there : v < length bs = omega (arith, s .long) in
@@ -99,44 +115,62 @@ module _ {row next down limit up : List ℤ} {bs₀ bs : List ℕ} {fell : Bool}
         long = length-set bs v t ∙ s .long;
         rest = behind ∙ rw (← one, ← drop-drop 1 v bs, ← drop-drop 1 v bs₀) (ap (drop 1) (s .rest));
         ups = rw (behind, eu) (rw (drop-cons bs v 0 there) at (s .ups));
-        bytes = rw (front, behind, et) (append-snoc (take v bs) (testByte row next down limit v (getD bs v 0)) (testNode row next down limit (suc v) (drop (suc v) bs)) ∙ rw (drop-cons bs v 0 there) at (s .bytes));
+        bytes = rw (front, behind, et) (append-snoc (take v bs) (testByte row next room v (getD bs v 0)) (testNode row next room (suc v) (drop (suc v) bs)) ∙ rw (drop-cons bs v 0 there) at (s .bytes));
         falls = ef ∙ rw (first, front) (ap not (sym both));
       })
 
   -- the byte stays
-  stay : {up′ : List ℤ} → v < 8 → getD bs v 0 ≡ testByte row next down limit v (getD bs v 0) → up′ ≡ raise row next v (getD bs v 0) up → Tested row next down limit bs₀ bs up′ fell (v + 1)
+  stay : {up′ : List ℤ} → v < 8 → getD bs v 0 ≡ testByte row next room v (getD bs v 0) → up′ ≡ raise row next v (getD bs v 0) up → Tested row next room bs₀ bs up′ fell (v + 1)
   stay {up′} h et eu =
       let kept : (same (take v bs₀) (take v bs) && eqb (getD bs v 0) (getD bs v 0)) ≡ same (take v bs₀) (take v bs) = and-true (same (take v bs₀) (take v bs)) (eqb (getD bs v 0) (getD bs v 0)) (eq-eqb (getD bs v 0) (getD bs v 0) refl) in
-      subst (λ l. Tested row next down limit bs₀ l up′ fell (v + 1)) (set-getD bs v 0) (turn (getD bs v 0) h et eu (s .falls ∙ ap not (sym kept)))
+      subst (λ l. Tested row next room bs₀ l up′ fell (v + 1)) (set-getD bs v 0) (turn (getD bs v 0) h et eu (s .falls ∙ ap not (sym kept)))
 
   -- no arc
-  pub tested-none : v < 8 → getD bs v 0 ≡ 0 → Tested row next down limit bs₀ bs up fell (v + 1)
+  pub tested-none : v < 8 → getD bs v 0 ≡ 0 → Tested row next room bs₀ bs up fell (v + 1)
   tested-none h e = stay h (rw e refl) (rw e refl)
 
-  -- an arc: z, least, sum and ok are what the turn reckons
-  module _ {z least sum : List ℤ} {ok : Bool} (h : v < 8) (f : getD bs v 0 ≡ 0 → ⊥) (ez : z ≡ arcLanes row next v (getD bs v 0 - 1)) (el : least ≡ leasts up z) (es : sum ≡ sums down z) (eo : ok ≡ atMost sum limit) where
+  -- an arc whose child has no numbers
+  module _ (h : v < 8) (f : getD bs v 0 ≡ 0 → ⊥) (lone : far (lanesAt next ((getD bs v 0 - 1) * 17)) ≡ true) where
+    pub tested-lone : Tested row next room bs₀ (set bs v 0) up true (v + 1)
+    tested-lone = turn 0 h (byte (getD bs v 0) f lone) (same-up (getD bs v 0) f lone) (sym (ap not (and-false (same (take v bs₀) (take v bs)) (eqb (getD bs v 0) 0) (ne-eqb (getD bs v 0) 0 f))))
+      where
+        byte : (b : ℕ) → (b ≡ 0 → ⊥) → far (lanesAt next ((b - 1) * 17)) ≡ true → 0 ≡ testByte row next room v b
+        byte zero g e = refl
+        byte (suc k) g e =
+            let o : suc k - 1 ≡ k = omega arith in
+            sym (rw (rw o at e) refl)
+
+        same-up : (b : ℕ) → (b ≡ 0 → ⊥) → far (lanesAt next ((b - 1) * 17)) ≡ true → up ≡ raise row next v b up
+        same-up zero g e = refl
+        same-up (suc k) g e =
+            let o : suc k - 1 ≡ k = omega arith in
+            sym (rw (rw o at e) refl)
+
+  -- an arc whose child has: z, least and ok are what the turn reckons
+  module _ {z least : List ℤ} {ok : Bool} (h : v < 8) (f : getD bs v 0 ≡ 0 → ⊥) (near : far (lanesAt next ((getD bs v 0 - 1) * 17)) ≡ false)
+      (ez : z ≡ arcLanes row next v (getD bs v 0 - 1)) (el : least ≡ leasts up z) (eo : ok ≡ atMost z room) where
     counts : least ≡ raise row next v (getD bs v 0) up
-    counts = el ∙ rw ez (go (getD bs v 0) f)
+    counts = el ∙ rw ez (go (getD bs v 0) f near)
       where
-        go : (b : ℕ) → (b ≡ 0 → ⊥) → leasts up (arcLanes row next v (b - 1)) ≡ raise row next v b up
-        go zero g = absurd (g refl)
-        go (suc k) g =
+        go : (b : ℕ) → (b ≡ 0 → ⊥) → far (lanesAt next ((b - 1) * 17)) ≡ false → leasts up (arcLanes row next v (b - 1)) ≡ raise row next v b up
+        go zero g e = absurd (g refl)
+        go (suc k) g e =
             let o : suc k - 1 ≡ k = omega arith in
-            rw o refl
+            rw (o, rw o at e) refl
 
-    byte : cond ok (getD bs v 0) 0 ≡ testByte row next down limit v (getD bs v 0)
-    byte = rw (eo, es, ez) (go (getD bs v 0) f)
+    byte : cond ok (getD bs v 0) 0 ≡ testByte row next room v (getD bs v 0)
+    byte = rw (eo, ez) (go (getD bs v 0) f near)
       where
-        go : (b : ℕ) → (b ≡ 0 → ⊥) → cond (atMost (sums down (arcLanes row next v (b - 1))) limit) b 0 ≡ testByte row next down limit v b
-        go zero g = absurd (g refl)
-        go (suc k) g =
+        go : (b : ℕ) → (b ≡ 0 → ⊥) → far (lanesAt next ((b - 1) * 17)) ≡ false → cond (atMost (arcLanes row next v (b - 1)) room) b 0 ≡ testByte row next room v b
+        go zero g e = absurd (g refl)
+        go (suc k) g e =
             let o : suc k - 1 ≡ k = omega arith in
-            rw o refl
+            rw (o, rw o at e) refl
 
-    pub tested-stays : ok ≡ true → Tested row next down limit bs₀ bs least fell (v + 1)
+    pub tested-stays : ok ≡ true → Tested row next room bs₀ bs least fell (v + 1)
     tested-stays e = stay h (rw e at byte) counts
 
-    pub tested-falls : ok ≡ false → Tested row next down limit bs₀ (set bs v 0) least true (v + 1)
+    pub tested-falls : ok ≡ false → Tested row next room bs₀ (set bs v 0) least true (v + 1)
     tested-falls e = turn 0 h (rw e at byte) counts (sym (ap not (and-false (same (take v bs₀) (take v bs)) (eqb (getD bs v 0) 0) (ne-eqb (getD bs v 0) 0 f))))
 
   pub tested-up : 8 ≤ v → up ≡ raiseNode row next 0 bs₀ nowhere
@@ -144,7 +178,7 @@ module _ {row next down limit up : List ℤ} {bs₀ bs : List ℕ} {fell : Bool}
       let none : drop v bs ≡ [] = drop-of-length-le bs {i = v} (omega (arith, s .long)) in
       rw none at (s .ups)
 
-  pub tested-bytes : 8 ≤ v → bs ≡ testNode row next down limit 0 bs₀
+  pub tested-bytes : 8 ≤ v → bs ≡ testNode row next room 0 bs₀
   tested-bytes h =
       let none : drop v bs ≡ [] = drop-of-length-le bs {i = v} (omega (arith, s .long)) in
       sym (append-nil bs) ∙ rw (none, take-all v bs (omega (arith, s .long))) at (s .bytes)

@@ -1,80 +1,91 @@
 // One layer's numbers from its neighbour's, along any arcs: down to the layer below, up from it with the test of each arc, and a node's cells.
 ghost use mathlib.Core.Path.{_≡_};
-ghost use mathlib.Core.List.{_++_, map};
+ghost use mathlib.Core.List.{[], _∷_, _++_, map};
 ghost use mathlib.Core.Bool.{not};
-ghost use Prim.Native.Nat.{_+_, _*_, _≤_};
-ghost use lib.ListN.{length, drop, replicate};
+ghost use Prim.Native.Nat.{_+_, _*_, _-_, _≤_};
+ghost use lib.ListN.{length, take, drop, replicate};
 ghost use lib.IntN.{pos};
 ghost use Rattle.laws.specs.Z.{Within};
 ghost use Rattle.laws.specs.Lists.{flat, from, parted, same};
 ghost use Rattle.laws.proofs.Each.{Each};
-ghost use Rattle.lent.specs.Passes.{Slot, Row, Bytes, bringNode, bringLayer, arcLanes, raiseNode, raiseLayer, testNode, testLayer, nodeLanes, downLanes, downCells, upCells, layerCells};
+ghost use Rattle.lent.specs.Passes.{Slot, Row, Spare, Bytes, HalfNode, HalfCells, bringNode, bringLayer, raiseNode, raiseLayer, testNode, testLayer, nodeLanes, downLanes, roomLanes, downCells, upCells, layerCells};
+ghost use Rattle.state.specs.Pairs.{pairs, Inside, unpaired};
 use lanes::FAR;
 use lanes::LANES;
+use state::State;
 
-// The arcs of a node with numbers x bring them to the next layer's row.
-fn bring_node(row: &[i32], x: [i32; 17], arcs: &[u8], next: &mut [i32])
-    requires { ⌜ Slot (now row) × Each (Within 4000000) x × (length (now arcs) ≡ 8) × Bytes (now arcs) × (length (now next) ≡ 272) ⌝ }
-    ensures { λ r. ⌜ now (next .exit) ≡ bringNode (now (row .entry)) x 0 (now (arcs .entry)) (now (next .entry)) ⌝ }
+// The arcs of a node with the state x and the cost down bring them to the next layer's row: states merge, costs take the least.
+fn bring_node(row: &[i32], x: State, cost: i32, arcs: &[u8], next: &mut [i32])
+    requires { ⌜ Slot (now row) × Inside 4000000 (pairs x) × Within 4000000 cost × (length (now arcs) ≡ 8) × Bytes (now arcs) × Spare (now next) ⌝ }
+    ensures { λ r. ⌜ now (next .exit) ≡ bringNode (now (row .entry)) (unpaired (pairs x) ++ (cost ∷ [])) 0 (now (arcs .entry)) (now (next .entry)) ⌝ }
 {
     let mut v: usize = 0;
     while v < 8 {
         let b = arcs[v] as usize;
         if b != 0 {
             let to = (b - 1) * LANES;
-            let y = lanes::sum_of(x, lanes::lanes_at(row, v * LANES));
-            let z = lanes::least_of(lanes::lanes_at(next, to), y);
-            lanes::put_lanes(next, to, z);
+            let s = state::taken(next, to);
+            let t = state::child(x, row, v * LANES);
+            state::laid(next, to, state::merged(s, t));
+            next[to + 16] = lanes::lesser(next[to + 16], cost + row[v * LANES + 16]);
         }
         v += 1;
     }
 }
 
-// The down numbers of the next layer from those of this one; a node without a number brings none.
-pub fn layer_down(w: usize, row: &[i32], here: &[i32], arcs: &[u8], next: &mut [i32])
-    requires { ⌜ (w ≤ 16) × Slot (now row) × Row (now here) × (length (now arcs) ≡ w * 8) × Bytes (now arcs) × (length (now next) ≡ 272) ⌝ }
+// The down numbers that this layer brings to the next; a node without a number brings none.
+fn layer_down(w: usize, row: &[i32], here: &[i32], arcs: &[u8], next: &mut [i32])
+    requires { ⌜ (w ≤ 16) × Slot (now row) × Row (now here) × (length (now arcs) ≡ w * 8) × Bytes (now arcs) × Spare (now next) ⌝ }
     ensures { λ r. ⌜ now (next .exit) ≡ bringLayer (now (row .entry)) (now (here .entry)) 0 (parted w 8 (now (arcs .entry))) (now (next .entry)) ⌝ }
 {
     let mut j: usize = 0;
     while j < w {
-        let x = lanes::lanes_at(here, j * LANES);
-        if x[16] != FAR {
-            bring_node(row, x, &arcs[j * 8..j * 8 + 8], next);
+        let cost = here[j * LANES + 16];
+        if cost != FAR {
+            let x = state::taken(here, j * LANES);
+            bring_node(row, x, cost, &arcs[j * 8..j * 8 + 8], next);
         }
         j += 1;
     }
 }
 
-// A node's cells: all zero where it lacks a number, else 1, the pairs of each rule down and up, and both costs.
-fn put_node(m: usize, down: [i32; 17], up: [i32; 17], cells: &mut [i32])
-    requires { ⌜ (m ≤ 8) × (length (now cells) ≡ 4 * m + 3) × Each (Within 10000000) down × Each (Within 10000000) up ⌝ }
-    ensures { λ r. ⌜ now (cells .exit) ≡ nodeLanes m down up ⌝ }
+// The row of w nodes without numbers; what stands behind them is left.
+fn blank(w: usize, row: &mut [i32])
+    requires { ⌜ w * 17 ≤ length (now row) ⌝ }
+    ensures { λ r. ⌜ now (row .exit) ≡ replicate (w * 17) (pos 4000000) ++ drop (w * 17) (now (row .entry)) ⌝ }
 {
-    if down[16] == FAR {
-        zero_cells(cells);
-        return;
+    let end = w * LANES;
+    let mut k: usize = 0;
+    while k < end {
+        row[k] = FAR;
+        k += 1;
     }
-    if up[16] == FAR {
-        zero_cells(cells);
-        return;
+}
+
+// The first w nodes of a row copied to another.
+fn copy(w: usize, from: &[i32], to: &mut [i32])
+    requires { ⌜ (w * 17 ≤ length (now from)) × (w * 17 ≤ length (now to)) ⌝ }
+    ensures { λ r. ⌜ now (to .exit) ≡ take (w * 17) (now (from .entry)) ++ drop (w * 17) (now (to .entry)) ⌝ }
+{
+    let end = w * LANES;
+    let mut k: usize = 0;
+    while k < end {
+        let z = from[k];
+        to[k] = z;
+        k += 1;
     }
-    cells[0] = 1;
-    let mut r: usize = 0;
-    while r < m {
-        let a = down[r];
-        let b = down[8 + r];
-        let c = up[r];
-        let d = up[8 + r];
-        cells[4 * r + 1] = a;
-        cells[4 * r + 2] = -b;
-        cells[4 * r + 3] = c;
-        cells[4 * r + 4] = -d;
-        r += 1;
-    }
-    let a = down[16];
-    let c = up[16];
-    cells[4 * m + 1] = a;
-    cells[4 * m + 2] = c;
+}
+
+// The row of one layer becomes that of the next, by the arcs between them; `spare` is room to work in.
+pub fn next_down(w: usize, row: &[i32], here: &mut [i32], arcs: &[u8], spare: &mut [i32])
+    requires { ⌜ (w ≤ 16) × Slot (now row) × Row (now here) × (drop (w * 17) (now here) ≡ replicate ((16 - w) * 17) (pos 4000000))
+        × (length (now arcs) ≡ w * 8) × Each (λ b. b ≤ w) (now arcs) × Spare (now spare) ⌝ }
+    ensures { λ r. ⌜ now (here .exit) ≡ bringLayer (now (row .entry)) (now (here .entry)) 0 (parted w 8 (now (arcs .entry))) (replicate 272 (pos 4000000)) ⌝ }
+    ensures spare { λ r. ⌜ Spare (now (spare .exit)) ⌝ }
+{
+    blank(w, spare);
+    layer_down(w, row, here, arcs, spare);
+    copy(w, spare, here);
 }
 
 // Every cell zero.
@@ -88,26 +99,29 @@ pub fn zero_cells(cells: &mut [i32])
     }
 }
 
-// The down numbers that stand in a node's cells.
-fn down_lanes(m: usize, cells: &[i32]) -> [i32; 17]
-    requires { ⌜ (m ≤ 8) × (length (now cells) ≡ 4 * m + 3) × Each (Within 4000000) (now cells) ⌝ }
-    ensures { λ r. ⌜ r ≡ downLanes m (now (cells .entry)) ⌝ }
+// A node's cells while only its down numbers are known: all zero where it has none, else 1, each rule's pair, the cost; the rest zero.
+fn put_down(m: usize, down: &[i32], cells: &mut [i32])
+    requires { ⌜ (m ≤ 8) × (length (now down) ≡ 17) × Each (Within 10000000) (now down) × (length (now cells) ≡ 4 * m + 3) ⌝ }
+    ensures { λ r. ⌜ now (cells .exit) ≡ nodeLanes m (now (down .entry)) (replicate 17 (pos 0)) ⌝ }
 {
-    if cells[0] == 0 {
-        return [FAR; 17];
+    if down[16] == FAR {
+        zero_cells(cells);
+        return;
     }
-    let mut x = [0i32; 17];
+    cells[0] = 1;
     let mut r: usize = 0;
     while r < m {
-        let lo = cells[4 * r + 1];
-        let hi = cells[4 * r + 2];
-        x[r] = lo;
-        x[8 + r] = -hi;
+        let a = down[r];
+        let b = down[8 + r];
+        cells[4 * r + 1] = a;
+        cells[4 * r + 2] = -b;
+        cells[4 * r + 3] = 0;
+        cells[4 * r + 4] = 0;
         r += 1;
     }
-    let cost = cells[4 * m + 1];
-    x[16] = cost;
-    x
+    let a = down[16];
+    cells[4 * m + 1] = a;
+    cells[4 * m + 2] = 0;
 }
 
 // A layer's down numbers to its cells; the up numbers stand at zero there until they are reckoned.
@@ -118,37 +132,119 @@ pub fn put_downs(m: usize, w: usize, here: &[i32], cells: &mut [i32])
     let size = 4 * m + 3;
     let mut j: usize = 0;
     while j < w {
-        let x = lanes::lanes_at(here, j * LANES);
-        put_node(m, x, [0; 17], &mut cells[j * size..j * size + size]);
+        put_down(
+            m,
+            &here[j * LANES..j * LANES + LANES],
+            &mut cells[j * size..j * size + size],
+        );
         j += 1;
     }
 }
 
-// The up numbers of the last layer beside its down numbers.
+// A node's up numbers beside its down numbers; all zero where it lacks one of them.
+fn put_up(m: usize, up: &[i32], cells: &mut [i32])
+    requires { ⌜ (m ≤ 8) × (length (now up) ≡ 17) × Each (Within 10000000) (now up) × HalfNode m (now cells) ⌝ }
+    ensures { λ r. ⌜ now (cells .exit) ≡ nodeLanes m (downLanes m (now (cells .entry))) (now (up .entry)) ⌝ }
+{
+    if cells[0] == 0 {
+        return;
+    }
+    if up[16] == FAR {
+        zero_cells(cells);
+        return;
+    }
+    let mut r: usize = 0;
+    while r < m {
+        let a = up[r];
+        let b = up[8 + r];
+        cells[4 * r + 3] = a;
+        cells[4 * r + 4] = -b;
+        r += 1;
+    }
+    let a = up[16];
+    cells[4 * m + 2] = a;
+}
+
+// The up numbers of a layer beside its down numbers.
 pub fn put_ups(m: usize, w: usize, here: &[i32], cells: &mut [i32])
-    requires { ⌜ (m ≤ 8) × (w ≤ 16) × Row (now here) × (length (now cells) ≡ w * (4 * m + 3)) × Each (Within 4000000) (now cells) ⌝ }
+    requires { ⌜ (m ≤ 8) × (w ≤ 16) × (length (now here) ≡ 272) × Each (Within 10000000) (take (w * 17) (now here)) × HalfCells m w (now cells) ⌝ }
     ensures { λ r. ⌜ now (cells .exit) ≡ flat (upCells m (now (here .entry)) 0 (parted w (4 * m + 3) (now (cells .entry)))) ⌝ }
 {
     let size = 4 * m + 3;
     let mut j: usize = 0;
     while j < w {
-        let x = lanes::lanes_at(here, j * LANES);
-        let down = down_lanes(m, &cells[j * size..j * size + size]);
-        put_node(m, down, x, &mut cells[j * size..j * size + size]);
+        put_up(
+            m,
+            &here[j * LANES..j * LANES + LANES],
+            &mut cells[j * size..j * size + size],
+        );
         j += 1;
     }
 }
 
-// What an arc brings up from its child.
-fn arc_lanes(row: &[i32], v: usize, next: &[i32], k: usize) -> [i32; 17]
-    requires { ⌜ Slot (now row) × (v * 17 + 17 ≤ 136) × Row (now next) × (k * 17 + 17 ≤ 272) ⌝ }
-    ensures { λ r. ⌜ r ≡ arcLanes (now (row .entry)) (now (next .entry)) v k ⌝ }
+// All lanes of a node's room at one number.
+fn level(room: &mut [i32], z: i32)
+    requires { ⌜ length (now room) ≡ 17 ⌝ }
+    ensures { λ r. ⌜ now (room .exit) ≡ replicate 17 z ⌝ }
 {
-    let y = lanes::lanes_at(next, k * LANES);
-    if y[16] == FAR {
-        return [FAR; 17];
+    let mut k: usize = 0;
+    while k < 17 {
+        room[k] = z;
+        k += 1;
     }
-    lanes::sum_of(y, lanes::lanes_at(row, v * LANES))
+}
+
+// What the arcs of a node may still bring up: the limit less its down numbers. A node that has none lets no arc stay, a free one every arc.
+fn room_of(m: usize, free: bool, limit: &[i32], cells: &[i32], room: &mut [i32])
+    requires { ⌜ (m ≤ 8) × (length (now limit) ≡ 17) × Each (Within 4000000) (now limit) × (length (now cells) ≡ 4 * m + 3) × Each (Within 4000000) (now cells) × (length (now room) ≡ 17) ⌝ }
+    ensures { λ r. ⌜ now (room .exit) ≡ roomLanes m free (now (limit .entry)) (now (cells .entry)) ⌝ }
+{
+    if cells[0] == 0 {
+        level(room, -FAR);
+        return;
+    }
+    if free {
+        level(room, FAR);
+        return;
+    }
+    let mut k: usize = 0;
+    while k < 16 {
+        let z = limit[k];
+        room[k] = z;
+        k += 1;
+    }
+    let mut r: usize = 0;
+    while r < m {
+        let lo = cells[4 * r + 1];
+        let hi = cells[4 * r + 2];
+        let a = limit[r];
+        let b = limit[8 + r];
+        room[r] = a - lo;
+        room[8 + r] = b + hi;
+        r += 1;
+    }
+    let cost = cells[4 * m + 1];
+    let a = limit[16];
+    room[16] = a - cost;
+}
+
+// The rooms of a layer's nodes.
+fn rooms(m: usize, w: usize, free: bool, limit: &[i32], cells: &[i32], room: &mut [i32])
+    requires { ⌜ (m ≤ 8) × (w ≤ 16) × (length (now limit) ≡ 17) × Each (Within 4000000) (now limit) × (length (now cells) ≡ w * (4 * m + 3)) × Each (Within 4000000) (now cells) × (length (now room) ≡ 272) ⌝ }
+    ensures { λ r. ⌜ now (room .exit) ≡ flat (map (roomLanes m free (now (limit .entry))) (parted w (4 * m + 3) (now (cells .entry)))) ++ drop (w * 17) (now (room .entry)) ⌝ }
+{
+    let size = 4 * m + 3;
+    let mut j: usize = 0;
+    while j < w {
+        room_of(
+            m,
+            free,
+            limit,
+            &cells[j * size..j * size + size],
+            &mut room[j * LANES..j * LANES + LANES],
+        );
+        j += 1;
+    }
 }
 
 // A node's up numbers, and whether an arc of it fell.
@@ -157,17 +253,11 @@ struct Raised {
     fell: bool,
 }
 
-// A node's up numbers over its arcs; an arc falls if it is on no path or breaks the limit.
-fn raise_node(
-    row: &[i32],
-    next: &[i32],
-    down: [i32; 17],
-    limit: [i32; 17],
-    arcs: &mut [u8],
-) -> Raised
-    requires { ⌜ Slot (now row) × Row (now next) × Each (Within 4000000) down × (length (now arcs) ≡ 8) × Bytes (now arcs) ⌝ }
+// A node's up numbers over its arcs; an arc falls if it leads to no number or brings more than the room.
+fn raise_node(row: &[i32], next: &[i32], room: [i32; 17], arcs: &mut [u8]) -> Raised
+    requires { ⌜ Slot (now row) × Row (now next) × (length (now arcs) ≡ 8) × Bytes (now arcs) ⌝ }
     ensures up { λ r. ⌜ r .up ≡ raiseNode (now (row .entry)) (now (next .entry)) 0 (now (arcs .entry)) (replicate 17 (pos 4000000)) ⌝ }
-    ensures arcs { λ r. ⌜ now (arcs .exit) ≡ testNode (now (row .entry)) (now (next .entry)) down limit 0 (now (arcs .entry)) ⌝ }
+    ensures arcs { λ r. ⌜ now (arcs .exit) ≡ testNode (now (row .entry)) (now (next .entry)) room 0 (now (arcs .entry)) ⌝ }
     ensures fell { λ r. ⌜ r .fell ≡ not (same (now (arcs .entry)) (now (arcs .exit))) ⌝ }
 {
     let mut up = [FAR; 17];
@@ -176,10 +266,15 @@ fn raise_node(
     while v < 8 {
         let b = arcs[v] as usize;
         if b != 0 {
-            let z = arc_lanes(row, v, next, b - 1);
-            let least = lanes::least_of(up, z);
-            up = least;
-            if !lanes::at_most(lanes::sum_of(down, z), limit) {
+            let mut stays = false;
+            let to = (b - 1) * LANES;
+            if next[to + 16] != FAR {
+                let z = lanes::sum_of(lanes::lanes_at(next, to), lanes::lanes_at(row, v * LANES));
+                let least = lanes::least_of(up, z);
+                up = least;
+                stays = lanes::at_most(z, room);
+            }
+            if !stays {
                 arcs[v] = 0;
                 fell = true;
             }
@@ -189,37 +284,64 @@ fn raise_node(
     Raised { up: up, fell: fell }
 }
 
-// The up numbers of a layer from those of the next, each arc tested, the cells of each node; whether an arc fell.
-pub fn layer_up(
-    m: usize,
+// The up numbers of a layer from those of the next, each arc tested; whether an arc fell.
+fn raise(
     w: usize,
     row: &[i32],
     next: &[i32],
-    limit: [i32; 17],
+    room: &[i32],
     arcs: &mut [u8],
-    cells: &mut [i32],
     here: &mut [i32],
 ) -> bool
-    requires { ⌜ (m ≤ 8) × (w ≤ 16) × Slot (now row) × Row (now next) × (length (now here) ≡ 272) × (length (now arcs) ≡ w * 8) × Bytes (now arcs)
-        × (length (now cells) ≡ w * (4 * m + 3)) × Each (Within 4000000) (now cells) ⌝ }
+    requires { ⌜ (w ≤ 16) × Slot (now row) × Row (now next) × (length (now room) ≡ 272) × (length (now here) ≡ 272) × (length (now arcs) ≡ w * 8) × Bytes (now arcs) ⌝ }
     ensures here { λ r. ⌜ now (here .exit) ≡ flat (raiseLayer (now (row .entry)) (now (next .entry)) (parted w 8 (now (arcs .entry)))) ++ drop (w * 17) (now (here .entry)) ⌝ }
-    ensures arcs { λ r. ⌜ now (arcs .exit) ≡ flat (testLayer (now (row .entry)) (now (next .entry)) m limit (parted w 8 (now (arcs .entry))) (parted w (4 * m + 3) (now (cells .entry)))) ⌝ }
-    ensures cells { λ r. ⌜ now (cells .exit) ≡ flat (layerCells (now (row .entry)) (now (next .entry)) m (parted w 8 (now (arcs .entry))) (parted w (4 * m + 3) (now (cells .entry)))) ⌝ }
+    ensures arcs { λ r. ⌜ now (arcs .exit) ≡ flat (testLayer (now (row .entry)) (now (next .entry)) (parted w 8 (now (arcs .entry))) (parted w 17 (now (room .entry)))) ⌝ }
     ensures fell { λ r. ⌜ r ≡ not (same (now (arcs .entry)) (now (arcs .exit))) ⌝ }
 {
-    let size = 4 * m + 3;
     let mut fell = false;
     let mut j: usize = 0;
     while j < w {
-        let down = down_lanes(m, &cells[j * size..j * size + size]);
-        let u = raise_node(row, next, down, limit, &mut arcs[j * 8..j * 8 + 8]);
+        let u = raise_node(
+            row,
+            next,
+            lanes::lanes_at(room, j * LANES),
+            &mut arcs[j * 8..j * 8 + 8],
+        );
         let up = u.up;
         lanes::put_lanes(here, j * LANES, up);
-        put_node(m, down, up, &mut cells[j * size..j * size + size]);
         if u.fell {
             fell = true;
         }
         j += 1;
     }
+    fell
+}
+
+// The row of one layer becomes that of the layer before it, each arc between them is tested, and the cells of that layer get
+// their up numbers; whether an arc fell. `spare` and `room` are room to work in.
+pub fn next_up(
+    m: usize,
+    w: usize,
+    row: &[i32],
+    next: &mut [i32],
+    free: bool,
+    limit: &[i32],
+    arcs: &mut [u8],
+    cells: &mut [i32],
+    spare: &mut [i32],
+    room: &mut [i32],
+) -> bool
+    requires { ⌜ (m ≤ 8) × (w ≤ 16) × Slot (now row) × Row (now next) × (length (now limit) ≡ 17) × Each (Within 4000000) (now limit) × (length (now arcs) ≡ w * 8) × Bytes (now arcs)
+        × HalfCells m w (now cells) × (length (now spare) ≡ 272) × (length (now room) ≡ 272) ⌝ }
+    ensures next { λ r. ⌜ now (next .exit) ≡ flat (raiseLayer (now (row .entry)) (now (next .entry)) (parted w 8 (now (arcs .entry)))) ++ drop (w * 17) (now (next .entry)) ⌝ }
+    ensures arcs { λ r. ⌜ now (arcs .exit) ≡ flat (testLayer (now (row .entry)) (now (next .entry)) (parted w 8 (now (arcs .entry))) (map (roomLanes m free (now (limit .entry))) (parted w (4 * m + 3) (now (cells .entry))))) ⌝ }
+    ensures cells { λ r. ⌜ now (cells .exit) ≡ flat (layerCells (now (row .entry)) (now (next .entry)) m (parted w 8 (now (arcs .entry))) (parted w (4 * m + 3) (now (cells .entry)))) ⌝ }
+    ensures fell { λ r. ⌜ r ≡ not (same (now (arcs .entry)) (now (arcs .exit))) ⌝ }
+    ensures lengths { λ r. ⌜ (length (now (spare .exit)) ≡ 272) × (length (now (room .exit)) ≡ 272) ⌝ }
+{
+    rooms(m, w, free, limit, cells, room);
+    let fell = raise(w, row, next, room, arcs, spare);
+    put_ups(m, w, spare, cells);
+    copy(w, spare, next);
     fell
 }

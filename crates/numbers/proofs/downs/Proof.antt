@@ -2,24 +2,25 @@
 use mathlib.Core.Path.{_≡_, refl, sym, _∙_}
 use Prim.Native.Nat.{_-_, _+_, _*_}
 use native.Mathlib.Omega.{arith}
-use borrow.Author.Needs.{needs}
 use denote.Ref.{now}
 use lib.ListN.{length}
 use Rattle.meaning.specs.Buffers.{arcsIn}
 use Rattle.problem.specs.Held.{campaignOf}
 use Rattle.problem.proofs.Arrays.{long}
+use Rattle.lent.specs.Passes.{Spare}
 use Rattle.rows.proofs.Laid.{part-long}
 use Rattle.numbers.specs.Whole.{Ready}
-use Rattle.numbers.proofs.Passes.{Setting, setting, need-is, few-rules, few-slots, few-size, slot-asks, row-said, Down, byte-place, slot-right, down-start, bytes-low, down-right, down-place, down-more, last-place, down-last, down-end}
+use Rattle.numbers.proofs.Passes.{Setting, setting, need-is, few-rules, few-slots, few-size, slot-asks, row-said, spare-start, Down, byte-place, slot-right, down-start, bytes-lower, down-right, down-rest, down-place, down-more, last-place, down-last, down-end}
+use borrow.Author.Needs.{needs}
 use Rattle.numbers.proofs.downs.Statement.{statement}
 use Rattle.numbers.proofs.downs.Tie as tie
 
 abbrev Inv-loop : tie.InvT-loop
-Inv-loop w arcs cells₀ p n m bytes size here₀ i₀ cells here i =
-    Ready p w × Setting (campaignOf p) w (p .n) (p .m) arcs (arcsIn (campaignOf p) w arcs) × Down (campaignOf p) w (p .n) (p .m) (arcsIn (campaignOf p) w arcs) cells here i
+Inv-loop w arcs cells₀ p n m bytes size here₀ spare₀ row₀ i₀ cells here spare row i =
+    Ready p w × Setting (campaignOf p) w (p .n) (p .m) arcs (arcsIn (campaignOf p) w arcs) × (length row ≡ 136) × Spare spare × Down (campaignOf p) w (p .n) (p .m) (arcsIn (campaignOf p) w arcs) cells here i
 
 abbrev μ-loop : tie.MeasureT-loop
-μ-loop w arcs cells₀ p n m bytes size here₀ i₀ cells here i = p .n - i
+μ-loop w arcs cells₀ p n m bytes size here₀ spare₀ row₀ i₀ cells here spare row i = p .n - i
 
 mul-bytes : tie.Need-mul-bytes Inv-loop μ-loop
 mul-bytes c = omega (arith, c .before .pre .0 .few)
@@ -41,22 +42,22 @@ loop-holds c =
     let x = c .before .before in
     let sets : length (x .args .t1 .sets) ≡ 24 = search long in
     let s = setting (x .pre .0) (x .pre .1) sets in
-    (x .pre .0, s, down-start s (x .pre .2 ∙ need-is (x .pre .0) sets) (c .one-node .ensures))
+    (x .pre .0, s, refl, spare-start, down-start s (x .pre .2 ∙ need-is (x .pre .0) sets) (c .one-node .ensures))
 
 slice-aggregate-put-downs : tie.Need-slice-aggregate-put-downs Inv-loop μ-loop
-slice-aggregate-put-downs c = sym (down-right (c .before .before .loop .inv .1) (c .before .before .loop .inv .2) .long)
+slice-aggregate-put-downs c = sym (down-right (c .before .before .loop .inv .1) (c .before .before .loop .inv .4) .long)
 
 mul-put-downs : tie.Need-mul-put-downs Inv-loop μ-loop
-mul-put-downs c = omega (arith, down-place (c .before .before .loop .inv .1) (c .before .before .loop .inv .2))
+mul-put-downs c = omega (arith, down-place (c .before .before .loop .inv .1) (c .before .before .loop .inv .4))
 
 mul-put-downs-2 : tie.Need-mul-put-downs-2 Inv-loop μ-loop
-mul-put-downs-2 c = omega (arith, down-place (c .before .before .loop .inv .1) (c .before .before .loop .inv .2))
+mul-put-downs-2 c = omega (arith, down-place (c .before .before .loop .inv .1) (c .before .before .loop .inv .4))
 
 add-put-downs : tie.Need-add-put-downs Inv-loop μ-loop
-add-put-downs c = omega (arith, down-place (c .before .before .loop .inv .1) (c .before .before .loop .inv .2))
+add-put-downs c = omega (arith, down-place (c .before .before .loop .inv .1) (c .before .before .loop .inv .4))
 
 mul-put-downs-3 : tie.Need-mul-put-downs-3 Inv-loop μ-loop
-mul-put-downs-3 c = omega (arith, down-place (c .before .before .loop .inv .1) (c .before .before .loop .inv .2))
+mul-put-downs-3 c = omega (arith, down-place (c .before .before .loop .inv .1) (c .before .before .loop .inv .4))
 
 sub-put-downs : tie.Need-sub-put-downs Inv-loop μ-loop
 sub-put-downs c = search needs
@@ -65,13 +66,13 @@ part-put-downs-start : tie.Need-part-put-downs-start Inv-loop μ-loop
 part-put-downs-start c = search needs
 
 part-put-downs-end : tie.Need-part-put-downs-end Inv-loop μ-loop
-part-put-downs-end c = omega (arith, down-place (c .before .before .loop .inv .1) (c .before .before .loop .inv .2))
+part-put-downs-end c = omega (arith, down-place (c .before .before .loop .inv .1) (c .before .before .loop .inv .4))
 
 put-downs-requires : tie.Need-put-downs-requires Inv-loop μ-loop
 put-downs-requires c κs =
     let l = c .before .before .before .loop in
     let size = c .before .before .before .before .before .before .args .w * (4 * c .before .before .before .before .before .before .args .t1 .m + 3) in
-    (few-rules (l .inv .0), l .inv .0 .few, down-right (l .inv .1) (l .inv .2), part-long (l .i * size) size (l .cells) (down-place (l .inv .1) (l .inv .2) .0))
+    (few-rules (l .inv .0), l .inv .0 .few, down-right (l .inv .1) (l .inv .4), part-long (l .i * size) size (l .cells) (down-place (l .inv .1) (l .inv .4) .0))
 
 mul-weight : tie.Need-mul-weight Inv-loop μ-loop
 mul-weight c = omega (arith, few-slots (c .before .before .before .before .before .loop .inv .0), c .before .before .before .before .loop-test .taken)
@@ -79,49 +80,53 @@ mul-weight c = omega (arith, few-slots (c .before .before .before .before .befor
 element-copy-out-weight : tie.Need-element-copy-out-weight Inv-loop μ-loop
 element-copy-out-weight c = omega (arith, few-slots (c .before .before .before .before .before .loop .inv .0), c .before .before .before .before .loop-test .taken)
 
+slice-aggregate-slot-row : tie.Need-slice-aggregate-slot-row Inv-loop μ-loop
+slice-aggregate-slot-row c = sym (c .before .before .before .before .before .before .before .before .before .before .before .before .loop .inv .2)
+
 slot-row-requires : tie.Need-slot-row-requires Inv-loop μ-loop
-slot-row-requires c κs = slot-asks (c .before .before .before .before .before .before .before .before .before .before .before .loop .inv .0) (c .before .before .before .before .before .before .before .before .before .before .before .loop .i) (c .before .before .before .before .before .before .before .before .before .before .loop-test .taken)
+slot-row-requires c κs = slot-asks (c .before .before .before .before .before .before .before .before .before .before .before .before .loop .inv .0) (c .before .before .before .before .before .before .before .before .before .before .before .before .loop .i) (c .before .before .before .before .before .before .before .before .before .before .before .loop-test .taken) (c .before .before .before .before .before .before .before .before .before .before .before .before .loop .row) (c .before .before .before .before .before .before .before .before .before .before .before .before .loop .inv .2)
 
-slice-aggregate-layer-down : tie.Need-slice-aggregate-layer-down Inv-loop μ-loop
-slice-aggregate-layer-down c =
-    let l = c .before .before .before .before .before .before .before .before .before .before .before .before .before .loop in
-    sym (slot-right (l .inv .1) (l .i) (row-said (l .inv .0) (l .i) (c .before .before .before .before .before .before .before .before .before .before .before .before .loop-test .taken) (c .before .slot-row .ensures)) .long)
+slice-aggregate-next-down : tie.Need-slice-aggregate-next-down Inv-loop μ-loop
+slice-aggregate-next-down c =
+    let l = c .before .before .before .before .before .before .before .before .before .before .before .before .before .before .before .loop in
+    sym (slot-right (l .inv .1) (l .i) (row-said (l .inv .0) (l .i) (c .before .before .before .before .before .before .before .before .before .before .before .before .before .before .loop-test .taken) (c .before .before .slot-row .ensures)) .long)
 
-slice-aggregate-layer-down-2 : tie.Need-slice-aggregate-layer-down-2 Inv-loop μ-loop
-slice-aggregate-layer-down-2 c = sym (down-right (c .before .before .before .before .before .before .before .before .before .before .before .before .before .before .loop .inv .1) (c .before .before .before .before .before .before .before .before .before .before .before .before .before .before .loop .inv .2) .long)
+slice-aggregate-next-down-2 : tie.Need-slice-aggregate-next-down-2 Inv-loop μ-loop
+slice-aggregate-next-down-2 c = sym (down-right (c .before .before .before .before .before .before .before .before .before .before .before .before .before .before .before .before .loop .inv .1) (c .before .before .before .before .before .before .before .before .before .before .before .before .before .before .before .before .loop .inv .4) .long)
 
-mul-layer-down : tie.Need-mul-layer-down Inv-loop μ-loop
-mul-layer-down c = omega (arith, byte-place (c .before .before .before .before .before .before .before .before .before .before .before .before .before .before .loop .inv .1) (c .before .before .before .before .before .before .before .before .before .before .before .before .before .before .loop .i) (c .before .before .before .before .before .before .before .before .before .before .before .before .before .loop-test .taken))
+mul-next-down : tie.Need-mul-next-down Inv-loop μ-loop
+mul-next-down c = omega (arith, byte-place (c .before .before .before .before .before .before .before .before .before .before .before .before .before .before .before .before .loop .inv .1) (c .before .before .before .before .before .before .before .before .before .before .before .before .before .before .before .before .loop .i) (c .before .before .before .before .before .before .before .before .before .before .before .before .before .before .before .loop-test .taken))
 
-mul-layer-down-2 : tie.Need-mul-layer-down-2 Inv-loop μ-loop
-mul-layer-down-2 c = omega (arith, byte-place (c .before .before .before .before .before .before .before .before .before .before .before .before .before .before .loop .inv .1) (c .before .before .before .before .before .before .before .before .before .before .before .before .before .before .loop .i) (c .before .before .before .before .before .before .before .before .before .before .before .before .before .loop-test .taken))
+mul-next-down-2 : tie.Need-mul-next-down-2 Inv-loop μ-loop
+mul-next-down-2 c = omega (arith, byte-place (c .before .before .before .before .before .before .before .before .before .before .before .before .before .before .before .before .loop .inv .1) (c .before .before .before .before .before .before .before .before .before .before .before .before .before .before .before .before .loop .i) (c .before .before .before .before .before .before .before .before .before .before .before .before .before .before .before .loop-test .taken))
 
-add-layer-down : tie.Need-add-layer-down Inv-loop μ-loop
-add-layer-down c = omega (arith, byte-place (c .before .before .before .before .before .before .before .before .before .before .before .before .before .before .loop .inv .1) (c .before .before .before .before .before .before .before .before .before .before .before .before .before .before .loop .i) (c .before .before .before .before .before .before .before .before .before .before .before .before .before .loop-test .taken))
+add-next-down : tie.Need-add-next-down Inv-loop μ-loop
+add-next-down c = omega (arith, byte-place (c .before .before .before .before .before .before .before .before .before .before .before .before .before .before .before .before .loop .inv .1) (c .before .before .before .before .before .before .before .before .before .before .before .before .before .before .before .before .loop .i) (c .before .before .before .before .before .before .before .before .before .before .before .before .before .before .before .loop-test .taken))
 
-sub-layer-down : tie.Need-sub-layer-down Inv-loop μ-loop
-sub-layer-down c = search needs
+sub-next-down : tie.Need-sub-next-down Inv-loop μ-loop
+sub-next-down c = search needs
 
-part-layer-down-start : tie.Need-part-layer-down-start Inv-loop μ-loop
-part-layer-down-start c = search needs
+part-next-down-start : tie.Need-part-next-down-start Inv-loop μ-loop
+part-next-down-start c = search needs
 
-part-layer-down-end : tie.Need-part-layer-down-end Inv-loop μ-loop
-part-layer-down-end c = omega (arith, byte-place (c .before .before .before .before .before .before .before .before .before .before .before .before .before .before .loop .inv .1) (c .before .before .before .before .before .before .before .before .before .before .before .before .before .before .loop .i) (c .before .before .before .before .before .before .before .before .before .before .before .before .before .loop-test .taken))
+part-next-down-end : tie.Need-part-next-down-end Inv-loop μ-loop
+part-next-down-end c = omega (arith, byte-place (c .before .before .before .before .before .before .before .before .before .before .before .before .before .before .before .before .loop .inv .1) (c .before .before .before .before .before .before .before .before .before .before .before .before .before .before .before .before .loop .i) (c .before .before .before .before .before .before .before .before .before .before .before .before .before .before .before .loop-test .taken))
 
-slice-aggregate-layer-down-3 : tie.Need-slice-aggregate-layer-down-3 Inv-loop μ-loop
-slice-aggregate-layer-down-3 c = refl
+slice-aggregate-next-down-3 : tie.Need-slice-aggregate-next-down-3 Inv-loop μ-loop
+slice-aggregate-next-down-3 c = sym (c .before .before .before .before .before .before .before .before .before .before .before .before .before .before .before .before .before .before .loop .inv .3 .long)
 
-layer-down-requires : tie.Need-layer-down-requires Inv-loop μ-loop
-layer-down-requires c κs =
-    let l = c .before .before .before .before .before .before .before .before .before .before .before .before .before .before .before .before .loop in
-    let h = c .before .before .before .before .before .before .before .before .before .before .before .before .before .before .before .loop-test .taken in
-    let bytes = c .before .before .before .before .before .before .before .before .before .before .before .before .before .before .before .before .before .before .before .args .w * 8 in (
+next-down-requires : tie.Need-next-down-requires Inv-loop μ-loop
+next-down-requires c κs =
+    let l = c .before .before .before .before .before .before .before .before .before .before .before .before .before .before .before .before .before .before .loop in
+    let h = c .before .before .before .before .before .before .before .before .before .before .before .before .before .before .before .before .before .loop-test .taken in
+    let bytes = c .before .before .before .before .before .before .before .before .before .before .before .before .before .before .before .before .before .before .before .before .before .args .w * 8 in (
       l .inv .0 .few,
-      slot-right (l .inv .1) (l .i) (row-said (l .inv .0) (l .i) h (c .before .before .before .before .slot-row .ensures)),
-      down-right (l .inv .1) (l .inv .2),
-      part-long (l .i * bytes) bytes (now (c .before .before .before .before .before .before .before .before .before .before .before .before .before .before .before .before .before .before .before .args .arcs)) (byte-place (l .inv .1) (l .i) h .0),
-      bytes-low (l .inv .1) (l .i) h,
-      refl,
+      slot-right (l .inv .1) (l .i) (row-said (l .inv .0) (l .i) h (c .before .before .before .before .before .slot-row .ensures)),
+      down-right (l .inv .1) (l .inv .4),
+      down-rest (l .inv .1) (l .inv .4),
+      part-long (l .i * bytes) bytes (now (c .before .before .before .before .before .before .before .before .before .before .before .before .before .before .before .before .before .before .before .before .before .args .arcs)) (byte-place (l .inv .1) (l .i) h .0),
+      bytes-lower (l .inv .1) (l .i) h,
+      l .inv .3,
     )
 
 add-i : tie.Need-add-i Inv-loop μ-loop
@@ -132,24 +137,25 @@ loop-less c = search needs
 
 loop-again : tie.Need-loop-again Inv-loop μ-loop
 loop-again c =
-    let l = c .before .before .before .before .before .before .before .before .before .before .before .before .before .before .before .before .before .before .loop in
-    let h = c .before .before .before .before .before .before .before .before .before .before .before .before .before .before .before .before .before .loop-test .taken in
-    (l .inv .0, l .inv .1, down-more (l .inv .1) (l .inv .2) h (c .before .before .before .before .before .before .before .before .before .before .before .before .before .before .put-downs .ensures) (row-said (l .inv .0) (l .i) h (c .before .before .before .before .before .before .slot-row .ensures)) (c .before .layer-down .ensures))
+    let l = c .before .before .before .before .before .before .before .before .before .before .before .before .before .before .before .before .before .before .before .before .before .loop in
+    let h = c .before .before .before .before .before .before .before .before .before .before .before .before .before .before .before .before .before .before .before .before .loop-test .taken in
+    let said = row-said (l .inv .0) (l .i) h (c .before .before .before .before .before .before .before .before .slot-row .ensures) in
+    (l .inv .0, l .inv .1, slot-right (l .inv .1) (l .i) said .long, c .before .before .next-down .ensures .1, down-more (l .inv .1) (l .inv .4) h (c .before .before .before .before .before .before .before .before .before .before .before .before .before .before .before .before .before .put-downs .ensures) said (c .before .before .next-down .ensures .0))
 
 slice-aggregate-put-downs-2 : tie.Need-slice-aggregate-put-downs-2 Inv-loop μ-loop
-slice-aggregate-put-downs-2 c = sym (down-right (c .before .before .loop .inv .1) (c .before .before .loop .inv .2) .long)
+slice-aggregate-put-downs-2 c = sym (down-right (c .before .before .loop .inv .1) (c .before .before .loop .inv .4) .long)
 
 mul-put-downs-4 : tie.Need-mul-put-downs-4 Inv-loop μ-loop
-mul-put-downs-4 c = omega (arith, last-place (c .before .before .loop .inv .1) (c .before .before .loop .inv .2 .laid .long))
+mul-put-downs-4 c = omega (arith, last-place (c .before .before .loop .inv .1) (c .before .before .loop .inv .4 .laid .long))
 
 mul-put-downs-5 : tie.Need-mul-put-downs-5 Inv-loop μ-loop
-mul-put-downs-5 c = omega (arith, last-place (c .before .before .loop .inv .1) (c .before .before .loop .inv .2 .laid .long))
+mul-put-downs-5 c = omega (arith, last-place (c .before .before .loop .inv .1) (c .before .before .loop .inv .4 .laid .long))
 
 add-put-downs-2 : tie.Need-add-put-downs-2 Inv-loop μ-loop
-add-put-downs-2 c = omega (arith, last-place (c .before .before .loop .inv .1) (c .before .before .loop .inv .2 .laid .long))
+add-put-downs-2 c = omega (arith, last-place (c .before .before .loop .inv .1) (c .before .before .loop .inv .4 .laid .long))
 
 mul-put-downs-6 : tie.Need-mul-put-downs-6 Inv-loop μ-loop
-mul-put-downs-6 c = omega (arith, last-place (c .before .before .loop .inv .1) (c .before .before .loop .inv .2 .laid .long))
+mul-put-downs-6 c = omega (arith, last-place (c .before .before .loop .inv .1) (c .before .before .loop .inv .4 .laid .long))
 
 sub-put-downs-2 : tie.Need-sub-put-downs-2 Inv-loop μ-loop
 sub-put-downs-2 c = search needs
@@ -158,24 +164,24 @@ part-put-downs-start-2 : tie.Need-part-put-downs-start-2 Inv-loop μ-loop
 part-put-downs-start-2 c = search needs
 
 part-put-downs-end-2 : tie.Need-part-put-downs-end-2 Inv-loop μ-loop
-part-put-downs-end-2 c = omega (arith, last-place (c .before .before .loop .inv .1) (c .before .before .loop .inv .2 .laid .long))
+part-put-downs-end-2 c = omega (arith, last-place (c .before .before .loop .inv .1) (c .before .before .loop .inv .4 .laid .long))
 
 put-downs-requires-2 : tie.Need-put-downs-requires-2 Inv-loop μ-loop
 put-downs-requires-2 c κs =
     let l = c .before .before .before .loop in
     let size = c .before .before .before .before .before .before .args .w * (4 * c .before .before .before .before .before .before .args .t1 .m + 3) in
-    (few-rules (l .inv .0), l .inv .0 .few, down-right (l .inv .1) (l .inv .2), part-long (c .before .before .before .before .before .before .args .t1 .n * size) size (l .cells) (last-place (l .inv .1) (l .inv .2 .laid .long) .0))
+    (few-rules (l .inv .0), l .inv .0 .few, down-right (l .inv .1) (l .inv .4), part-long (c .before .before .before .before .before .before .args .t1 .n * size) size (l .cells) (last-place (l .inv .1) (l .inv .4 .laid .long) .0))
 
 same-length : tie.Need-same-length Inv-loop μ-loop
 same-length c =
     let x = c .before .before .before .before .before .before .before .before in
     let l = c .before .before .before .before .before .loop in
-    down-last (l .inv .1) (l .inv .2) (c .before .before .before .before .loop-test .left) (c .before .put-downs2 .ensures) .long ∙ sym (x .pre .2 ∙ need-is (x .pre .0) (search long))
+    down-last (l .inv .1) (l .inv .4) (c .before .before .before .before .loop-test .left) (c .before .put-downs2 .ensures) .long ∙ sym (x .pre .2 ∙ need-is (x .pre .0) (search long))
 
 returns : tie.Need-returns Inv-loop μ-loop
 returns c =
     let l = c .before .before .before .before .before .loop in
-    down-end (l .inv .1) (down-last (l .inv .1) (l .inv .2) (c .before .before .before .before .loop-test .left) (c .before .put-downs2 .ensures))
+    down-end (l .inv .1) (down-last (l .inv .1) (l .inv .4) (c .before .before .before .before .loop-test .left) (c .before .put-downs2 .ensures))
 
 pub downs-spec : {M : Type 1} → statement M
 downs-spec =
@@ -200,17 +206,18 @@ downs-spec =
     put-downs-requires
     mul-weight
     element-copy-out-weight
+    slice-aggregate-slot-row
     slot-row-requires
-    slice-aggregate-layer-down
-    slice-aggregate-layer-down-2
-    mul-layer-down
-    mul-layer-down-2
-    add-layer-down
-    sub-layer-down
-    part-layer-down-start
-    part-layer-down-end
-    slice-aggregate-layer-down-3
-    layer-down-requires
+    slice-aggregate-next-down
+    slice-aggregate-next-down-2
+    mul-next-down
+    mul-next-down-2
+    add-next-down
+    sub-next-down
+    part-next-down-start
+    part-next-down-end
+    slice-aggregate-next-down-3
+    next-down-requires
     add-i
     loop-less
     loop-again

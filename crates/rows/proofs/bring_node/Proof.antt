@@ -1,69 +1,112 @@
 -- `bring_node` meets its contract: a turn brings along one arc.
-use mathlib.Core.Path.{sym, _∙_}
+use mathlib.Core.Path.{_≡_, sym, ap, _∙_}
 use mathlib.Core.Logic.{⊎-elim}
-use Prim.Native.Nat.{_-_, _*_}
-use denote.Ref.{now}
+use Prim.Native.Nat.{_-_, _+_, _*_}
 use native.Mathlib.Omega.{arith}
+use denote.Ref.{now}
+use lib.ListN.{length, getD}
+use lib.IntN.{pos, _+ℤ_}
+use mir.Syntax.{w32}
+use mir.Val.{toZ, ofZ}
+use mir.Facts.{toZ-ofZ}
+use Rattle.laws.specs.Z.{minZ, sum-within, sum32, back, back-is, back-within, told}
+use Rattle.lent.specs.Passes.{bringNode}
+use Rattle.state.specs.Pairs.{pairs, added, pairsAt}
+use Rattle.state.proofs.Sizes.{mapped, pairs-long, inside-more, inside-added}
+use Rattle.state.proofs.Rows.{inside-row}
+use Rattle.lanes.proofs.Laws.{lane-within}
+use Rattle.rows.proofs.Lanes.{byte-at}
+use Rattle.rows.proofs.Down.{lanesOf, lanes-within, Brought, brought-start, brought-none, brought-arc, brought-end}
 use borrow.Author.Needs.{needs}
-use Rattle.lent.specs.Lanes.{lanesAt}
-use Rattle.rows.proofs.Lanes.{wide, each-lanes, byte-at}
-use Rattle.rows.proofs.Down.{Brought, brought-none, brought-arc, brought-start, brought-end}
 use Rattle.rows.proofs.bring_node.Statement.{statement}
 use Rattle.rows.proofs.bring_node.Tie as tie
-use Rattle.rows.proofs.bring_node.Reads as reads
-use Rattle.rows.proofs.bring_node.Lts as lts
-use Rattle.lanes.proofs.lanes_at.Reads as lanes-at-reads
-use Rattle.lanes.proofs.least_of.Reads as least-of-reads
-use Rattle.lanes.proofs.put_lanes.Reads as put-lanes-reads
-use Rattle.lanes.proofs.sum_of.Reads as sum-of-reads
 
 abbrev Inv-loop : tie.InvT-loop
-Inv-loop row x arcs next₀ v₀ next v = Brought row x arcs next₀ next v
+Inv-loop row x cost arcs next₀ v₀ next v = (length (pairs x) ≡ 8) × Brought row (lanesOf (pairs x) (toZ w32 cost)) arcs next₀ next v
 
 abbrev μ-loop : tie.MeasureT-loop
-μ-loop row x arcs next₀ v₀ next v = 8 - v
+μ-loop row x cost arcs next₀ v₀ next v = 8 - v
 
 loop-holds : tie.Need-loop-holds Inv-loop μ-loop
-loop-holds c = let x = c .before in brought-start (now (x .args .row)) (x .args .x) (now (x .args .arcs)) (now (x .args .next)) (x .pre .4)
+loop-holds c =
+    let a = c .before .args in
+    (pairs-long (a .x .at) (search mapped), brought-start (now (a .row)) (lanesOf (pairs (a .x)) (toZ w32 (ofZ w32 (a .cost)))) (now (a .arcs)) (now (a .next)) (c .before .pre .5))
 
 shared-slice-read-b : tie.Need-shared-slice-read-b Inv-loop μ-loop
 shared-slice-read-b c = search needs
 
 cast-b : tie.Need-cast-b Inv-loop μ-loop
-cast-b c = let x = c .before .before .before .before in omega (arith, byte-at (now (x .args .arcs)) (c .before .before .loop .v) (x .pre .3))
+cast-b c = omega (arith, byte-at (now (c .before .before .before .before .args .arcs)) (c .before .before .loop .v) (c .before .before .before .before .pre .4))
 
 sub-to : tie.Need-sub-to Inv-loop μ-loop
 sub-to c = search needs
 
 mul-to : tie.Need-mul-to Inv-loop μ-loop
-mul-to c = let x = c .before .before .before .before .before in omega (arith, byte-at (now (x .args .arcs)) (c .before .before .before .loop .v) (x .pre .3))
+mul-to c = omega (arith, byte-at (now (c .before .before .before .before .before .args .arcs)) (c .before .before .before .loop .v) (c .before .before .before .before .before .pre .4), c .if1 .taken)
 
-mul-lanes-at : tie.Need-mul-lanes-at Inv-loop μ-loop
-mul-lanes-at c = search needs
+taken-requires : tie.Need-taken-requires Inv-loop μ-loop
+taken-requires c κs = omega (arith, byte-at (now (c .before .before .before .before .before .before .args .arcs)) (c .before .before .before .before .loop .v) (c .before .before .before .before .before .before .pre .4), c .before .if1 .taken, c .before .before .before .before .loop .inv .1 .spare .long)
 
-lanes-at-requires : tie.Need-lanes-at-requires Inv-loop μ-loop
-lanes-at-requires c κs = omega (arith, c .before .before .before .before .before .pre .0 .long)
+mul-child : tie.Need-mul-child Inv-loop μ-loop
+mul-child c = search needs
 
-sum-of-requires : tie.Need-sum-of-requires Inv-loop μ-loop
-sum-of-requires c κs =
-    let x = c .before .before .before .before .before .before in
-    let v = c .before .before .before .before .loop .v in
-    (wide (x .args .x) (x .pre .1), rw (c .lanes-at .ensures) (wide (lanesAt (now (x .args .row)) (v * 17)) (each-lanes (now (x .args .row)) (v * 17) (x .pre .0 .inside))))
+child-requires : tie.Need-child-requires Inv-loop μ-loop
+child-requires c κs =
+    let a = c .before .before .before .before .before .before .before .args in
+    let at = c .before .before .before .before .before .loop .v * 17 in (
+      omega (arith, c .before .before .before .before .before .before .before .pre .0 .long, c .before .before .before .before .loop-test .taken),
+      inside-more 4000000 10000000 (omega arith) (pairs (a .x)) (c .before .before .before .before .before .before .before .pre .1),
+      inside-more 4000000 10000000 (omega arith) (pairsAt (now (a .row)) at) (inside-row 4000000 (now (a .row)) at (c .before .before .before .before .before .before .before .pre .0 .inside)),
+    )
 
-lanes-at-requires-2 : tie.Need-lanes-at-requires-2 Inv-loop μ-loop
-lanes-at-requires-2 c κs =
-    let x = c .before .before .before .before .before .before .before .before in
-    let l = c .before .before .before .before .before .before .loop in
-    omega (arith, l .inv .long, byte-at (now (x .args .arcs)) (l .v) (x .pre .3), c .before .before .before .if1 .taken)
+merged-requires : tie.Need-merged-requires Inv-loop μ-loop
+merged-requires c κs =
+    let a = c .before .before .before .before .before .before .before .before .before .args in
+    let l = c .before .before .before .before .before .before .before .loop in
+    let to = (getD (now (a .arcs)) (l .v) 0 - 1) * 17 in
+    let share = pairsAt (now (a .row)) (l .v * 17) in (
+      rw (c .before .before .taken .ensures) (inside-more 8000000 10000000 (omega arith) (pairsAt (l .next) to) (inside-row 8000000 (l .next) to (l .inv .1 .spare .inside))),
+      rw (c .before .child .ensures) (inside-more 8000000 10000000 (omega arith) (added (pairs (a .x)) share) (inside-added 4000000 4000000 (pairs (a .x)) share (c .before .before .before .before .before .before .before .before .before .pre .1) (inside-row 4000000 (now (a .row)) (l .v * 17) (c .before .before .before .before .before .before .before .before .before .pre .0 .inside)))),
+    )
 
-least-of-requires : tie.Need-least-of-requires Inv-loop μ-loop
-least-of-requires c κs = tt
+laid-requires : tie.Need-laid-requires Inv-loop μ-loop
+laid-requires c κs = omega (arith, byte-at (now (c .before .before .before .before .before .before .before .before .before .before .args .arcs)) (c .before .before .before .before .before .before .before .before .loop .v) (c .before .before .before .before .before .before .before .before .before .before .pre .4), c .before .before .before .before .before .if1 .taken, c .before .before .before .before .before .before .before .before .loop .inv .1 .spare .long)
 
-put-lanes-requires : tie.Need-put-lanes-requires Inv-loop μ-loop
-put-lanes-requires c κs =
-    let x = c .before .before .before .before .before .before .before .before .before .before .before in
-    let l = c .before .before .before .before .before .before .before .before .before .loop in
-    omega (arith, l .inv .long, byte-at (now (x .args .arcs)) (l .v) (x .pre .3), c .before .before .before .before .before .before .if1 .taken)
+add-lesser : tie.Need-add-lesser Inv-loop μ-loop
+add-lesser c = omega (arith, byte-at (now (c .before .before .before .before .before .before .before .before .before .before .before .before .args .arcs)) (c .before .before .before .before .before .before .before .before .before .before .loop .v) (c .before .before .before .before .before .before .before .before .before .before .before .before .pre .4), c .before .before .before .before .before .before .before .if1 .taken)
+
+mul-lesser : tie.Need-mul-lesser Inv-loop μ-loop
+mul-lesser c = omega (arith, byte-at (now (c .before .before .before .before .before .before .before .before .before .before .before .before .args .arcs)) (c .before .before .before .before .before .before .before .before .before .before .loop .v) (c .before .before .before .before .before .before .before .before .before .before .before .before .pre .4), c .before .before .before .before .before .before .before .if1 .taken)
+
+slice-copy-out-lesser : tie.Need-slice-copy-out-lesser Inv-loop μ-loop
+slice-copy-out-lesser c = omega (arith, byte-at (now (c .before .before .before .before .before .before .before .before .before .before .before .before .args .arcs)) (c .before .before .before .before .before .before .before .before .before .before .loop .v) (c .before .before .before .before .before .before .before .before .before .before .before .before .pre .4), c .before .before .before .before .before .before .before .if1 .taken, c .before .before .before .before .before .before .before .before .before .before .loop .inv .1 .spare .long, c .before .laid .kept .0)
+
+mul-lesser-2 : tie.Need-mul-lesser-2 Inv-loop μ-loop
+mul-lesser-2 c = search needs
+
+add-lesser-2 : tie.Need-add-lesser-2 Inv-loop μ-loop
+add-lesser-2 c = search needs
+
+mul-lesser-3 : tie.Need-mul-lesser-3 Inv-loop μ-loop
+mul-lesser-3 c = search needs
+
+shared-slice-copy-out-lesser : tie.Need-shared-slice-copy-out-lesser Inv-loop μ-loop
+shared-slice-copy-out-lesser c = omega (arith, c .before .before .before .before .before .before .before .before .before .before .before .before .before .pre .0 .long, c .before .before .before .before .before .before .before .before .before .before .loop-test .taken)
+
+add-lesser-3 : tie.Need-add-lesser-3 Inv-loop μ-loop
+add-lesser-3 c = sum32 (back-within (c .before .before .before .before .before .before .before .before .before .before .before .before .before .before .pre .2) tt) (back-within (lane-within (now (c .before .before .before .before .before .before .before .before .before .before .before .before .before .before .args .row)) (c .before .before .before .before .before .before .before .before .before .before .before .before .loop .v * 17 + 16) (c .before .before .before .before .before .before .before .before .before .before .before .before .before .before .pre .0 .inside)) tt) tt
+
+lesser-requires : tie.Need-lesser-requires Inv-loop μ-loop
+lesser-requires c κs = tt
+
+add-t31 : tie.Need-add-t31 Inv-loop μ-loop
+add-t31 c = omega (arith, byte-at (now (c .before .before .before .before .before .before .before .before .before .before .before .before .before .before .before .args .arcs)) (c .before .before .before .before .before .before .before .before .before .before .before .before .before .loop .v) (c .before .before .before .before .before .before .before .before .before .before .before .before .before .before .before .pre .4), c .before .before .before .before .before .before .before .before .before .before .if1 .taken)
+
+mul-t32 : tie.Need-mul-t32 Inv-loop μ-loop
+mul-t32 c = omega (arith, byte-at (now (c .before .before .before .before .before .before .before .before .before .before .before .before .before .before .before .args .arcs)) (c .before .before .before .before .before .before .before .before .before .before .before .before .before .loop .v) (c .before .before .before .before .before .before .before .before .before .before .before .before .before .before .before .pre .4), c .before .before .before .before .before .before .before .before .before .before .if1 .taken)
+
+slice-set-from-next : tie.Need-slice-set-from-next Inv-loop μ-loop
+slice-set-from-next c = omega (arith, byte-at (now (c .before .before .before .before .before .before .before .before .before .before .before .before .before .before .before .args .arcs)) (c .before .before .before .before .before .before .before .before .before .before .before .before .before .loop .v) (c .before .before .before .before .before .before .before .before .before .before .before .before .before .before .before .pre .4), c .before .before .before .before .before .before .before .before .before .before .if1 .taken, c .before .before .before .before .before .before .before .before .before .before .before .before .before .loop .inv .1 .spare .long, c .before .before .before .before .laid .kept .0)
 
 add-v : tie.Need-add-v Inv-loop μ-loop
 add-v c = search needs
@@ -73,19 +116,30 @@ loop-less c = search needs
 
 loop-again : tie.Need-loop-again Inv-loop μ-loop
 loop-again c =
-    let x = c .before .before .before .before .before in
+    let a = c .before .before .before .before .before .args in
     let l = c .before .before .before .loop in
     let t = c .before .before .loop-test .taken in
-    ⊎-elim
-    (λ w. brought-arc (l .inv) (x .pre .2) t (w .0 .taken) (byte-at (now (x .args .arcs)) (l .v) (x .pre .3)) (x .pre .0 .long) (search needs) (w .1 .ensures) (w .2 .ensures) (w .4 .ensures) (w .5 .ensures) (w .9 ∙ w .7 .ensures))
-    (λ w. rw (w .1) (brought-none (l .inv) (x .pre .2) t (w .0 .left)))
-    (c .if1 .came)
+    let row = now (a .row) in
+    let to = (getD (now (a .arcs)) (l .v) 0 - 1) * 17 in
+    let cost = back-within (c .before .before .before .before .before .pre .2) tt in
+    let share = lane-within row (l .v * 17 + 16) (c .before .before .before .before .before .pre .0 .inside) in
+    let added : back (back (a .cost) +ℤ back (getD row (l .v * 17 + 16) (pos 0))) ≡ back (a .cost) +ℤ getD row (l .v * 17 + 16) (pos 0) =
+    back-is (sum-within cost (back-within share tt)) tt ∙ ap (λ z. back (a .cost) +ℤ z) (back-is share tt) in (
+      l .inv .0,
+      ⊎-elim
+          (λ w. rw (w .11) (brought-arc (pairs (a .x)) (back (a .cost)) (l .inv .1) (c .before .before .before .before .before .pre .3) t (w .0 .taken) (byte-at (now (a .arcs)) (l .v) (c .before .before .before .before .before .pre .4)) (c .before .before .before .before .before .pre .0) (l .inv .0) (lanes-within (pairs (a .x)) (c .before .before .before .before .before .pre .1) cost)
+          (w .2 .ensures) (w .3 .ensures) (w .5 .ensures) (w .6 .ensures) (told (w .10 .result) (w .10 .ok) ∙ w .10 .ensures ∙ λ i. minZ (told (getD (w .6 .last .0) (to + 16) (pos 0)) (w .8 .given) i) (added i))))
+          (λ w. rw (w .1) (brought-none (l .inv .1) (c .before .before .before .before .before .pre .3) t (w .0 .left)))
+          (c .if1 .came),
+    )
 
 same-length : tie.Need-same-length Inv-loop μ-loop
-same-length c = c .before .loop .inv .long ∙ sym (c .before .before .before .pre .4)
+same-length c = c .before .loop .inv .1 .spare .long ∙ sym (c .before .before .before .pre .5 .long)
 
 returns : tie.Need-returns Inv-loop μ-loop
-returns c = brought-end (c .before .loop .inv) (c .before .before .before .pre .2) (c .loop-test .left)
+returns c =
+    let a = c .before .before .before .args in
+    brought-end (c .before .loop .inv .1) (c .before .before .before .pre .3) (c .loop-test .left) ∙ ap (λ z. bringNode (now (a .row)) (lanesOf (pairs (a .x)) z) 0 (now (a .arcs)) (now (a .next))) (toZ-ofZ (c .before .before .before .fits .cost))
 
 pub bring-node-spec : {M : Type 1} → statement M
 bring-node-spec =
@@ -98,12 +152,23 @@ bring-node-spec =
     cast-b
     sub-to
     mul-to
-    mul-lanes-at
-    lanes-at-requires
-    sum-of-requires
-    lanes-at-requires-2
-    least-of-requires
-    put-lanes-requires
+    taken-requires
+    mul-child
+    child-requires
+    merged-requires
+    laid-requires
+    add-lesser
+    mul-lesser
+    slice-copy-out-lesser
+    mul-lesser-2
+    add-lesser-2
+    mul-lesser-3
+    shared-slice-copy-out-lesser
+    add-lesser-3
+    lesser-requires
+    add-t31
+    mul-t32
+    slice-set-from-next
     add-v
     loop-less
     loop-again

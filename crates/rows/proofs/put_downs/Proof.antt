@@ -1,20 +1,22 @@
 -- `put_downs` meets its contract: a turn lays one node's cells.
-use mathlib.Core.Path.{sym, _∙_}
+use mathlib.Core.Path.{ap, _∙_}
 use Prim.Native.Nat.{_-_, _+_, _*_}
 use native.Mathlib.Omega.{arith}
-use borrow.Author.Needs.{needs}
 use denote.Ref.{now}
+use lib.ListN.{replicate}
 use lib.IntN.{pos}
-use Rattle.laws.specs.Z.{Within}
 use Rattle.lent.specs.Lanes.{lanesAt}
-use Rattle.rows.proofs.Laid.{part-long}
-use Rattle.rows.proofs.Lanes.{wide, each-replicate, each-lanes}
-use Rattle.rows.proofs.Layers.{Downs, downs-start, downs-place, downs-more, downs-end}
+use Rattle.lent.specs.Passes.{nodeLanes, downCells}
+use Rattle.lent.proofs.Whole.{node-long}
+use Rattle.rows.proofs.Laid.{part-is, part-long, Laying, laying-start, laying-place, laying-more, laying-all}
+use Rattle.rows.proofs.Lanes.{wide, each-lanes}
+use Rattle.rows.proofs.Layers.{downsLeft, downs-next, downs-none, downs-all}
+use borrow.Author.Needs.{needs}
 use Rattle.rows.proofs.put_downs.Statement.{statement}
 use Rattle.rows.proofs.put_downs.Tie as tie
 
 abbrev Inv-loop : tie.InvT-loop
-Inv-loop m w here cells₀ size j₀ cells j = Downs m w here cells j
+Inv-loop m w here cells₀ size j₀ cells j = Laying (4 * m + 3) w (downsLeft m w here) cells₀ cells j
 
 abbrev μ-loop : tie.MeasureT-loop
 μ-loop m w here cells₀ size j₀ cells j = w - j
@@ -26,44 +28,60 @@ add-size : tie.Need-add-size Inv-loop μ-loop
 add-size c = search needs
 
 loop-holds : tie.Need-loop-holds Inv-loop μ-loop
-loop-holds c = downs-start (c .args .m) (c .args .w) (now (c .args .here)) (now (c .args .cells)) (c .pre .3)
+loop-holds c = laying-start (omega (arith, c .pre .3))
 
-mul-lanes-at : tie.Need-mul-lanes-at Inv-loop μ-loop
-mul-lanes-at c = omega (arith, c .before .before .pre .1)
+mul-put-down : tie.Need-mul-put-down Inv-loop μ-loop
+mul-put-down c = omega (arith, c .before .before .pre .1)
 
-lanes-at-requires : tie.Need-lanes-at-requires Inv-loop μ-loop
-lanes-at-requires c κs = omega (arith, c .before .before .pre .1, c .before .before .pre .2 .long)
+mul-put-down-2 : tie.Need-mul-put-down-2 Inv-loop μ-loop
+mul-put-down-2 c = omega (arith, c .before .before .pre .1)
 
-mul-put-node : tie.Need-mul-put-node Inv-loop μ-loop
-mul-put-node c = omega (arith, c .before .before .before .good .1 .1 .1 .0, downs-place (c .before .before .loop .inv) (c .before .loop-test .taken))
+add-put-down : tie.Need-add-put-down Inv-loop μ-loop
+add-put-down c = omega (arith, c .before .before .pre .1)
 
-mul-put-node-2 : tie.Need-mul-put-node-2 Inv-loop μ-loop
-mul-put-node-2 c = omega (arith, c .before .before .before .good .1 .1 .1 .0, downs-place (c .before .before .loop .inv) (c .before .loop-test .taken))
+mul-put-down-3 : tie.Need-mul-put-down-3 Inv-loop μ-loop
+mul-put-down-3 c = omega (arith, c .before .before .pre .1)
 
-add-put-node : tie.Need-add-put-node Inv-loop μ-loop
-add-put-node c = omega (arith, c .before .before .before .good .1 .1 .1 .0, downs-place (c .before .before .loop .inv) (c .before .loop-test .taken))
+sub-put-down : tie.Need-sub-put-down Inv-loop μ-loop
+sub-put-down c = search needs
 
-mul-put-node-3 : tie.Need-mul-put-node-3 Inv-loop μ-loop
-mul-put-node-3 c = omega (arith, c .before .before .before .good .1 .1 .1 .0, downs-place (c .before .before .loop .inv) (c .before .loop-test .taken))
+part-put-down-start : tie.Need-part-put-down-start Inv-loop μ-loop
+part-put-down-start c = search needs
 
-sub-put-node : tie.Need-sub-put-node Inv-loop μ-loop
-sub-put-node c = search needs
+part-put-down-end : tie.Need-part-put-down-end Inv-loop μ-loop
+part-put-down-end c = omega (arith, c .before .before .pre .1, c .before .before .pre .2 .long)
 
-part-put-node-start : tie.Need-part-put-node-start Inv-loop μ-loop
-part-put-node-start c = search needs
+mul-put-down-4 : tie.Need-mul-put-down-4 Inv-loop μ-loop
+mul-put-down-4 c = omega (arith, c .before .before .before .good .1 .1 .1 .0, laying-place (c .before .before .loop .inv) (c .before .loop-test .taken))
 
-part-put-node-end : tie.Need-part-put-node-end Inv-loop μ-loop
-part-put-node-end c = omega (arith, c .before .before .before .good .1 .1 .1 .0, downs-place (c .before .before .loop .inv) (c .before .loop-test .taken))
+mul-put-down-5 : tie.Need-mul-put-down-5 Inv-loop μ-loop
+mul-put-down-5 c = omega (arith, c .before .before .before .good .1 .1 .1 .0, laying-place (c .before .before .loop .inv) (c .before .loop-test .taken))
 
-put-node-requires : tie.Need-put-node-requires Inv-loop μ-loop
-put-node-requires c κs =
-    let x = c .before .before .before .before in
-    let l = c .before .before .before .loop in
-    let s = 4 * x .args .m + 3 in (
-      x .pre .0,
-      part-long (l .j * s) s (l .cells) (downs-place (l .inv) (c .before .before .loop-test .taken)),
-      rw (c .before .lanes-at .ensures) (wide (lanesAt (now (x .args .here)) (l .j * 17)) (each-lanes (now (x .args .here)) (l .j * 17) (x .pre .2 .inside))),
-      each-replicate (Within 10000000) 17 {z = pos 0} (record { size = omega arith }),
+add-put-down-2 : tie.Need-add-put-down-2 Inv-loop μ-loop
+add-put-down-2 c = omega (arith, c .before .before .before .good .1 .1 .1 .0, laying-place (c .before .before .loop .inv) (c .before .loop-test .taken))
+
+mul-put-down-6 : tie.Need-mul-put-down-6 Inv-loop μ-loop
+mul-put-down-6 c = omega (arith, c .before .before .before .good .1 .1 .1 .0, laying-place (c .before .before .loop .inv) (c .before .loop-test .taken))
+
+sub-put-down-2 : tie.Need-sub-put-down-2 Inv-loop μ-loop
+sub-put-down-2 c = search needs
+
+part-put-down-start-2 : tie.Need-part-put-down-start-2 Inv-loop μ-loop
+part-put-down-start-2 c = search needs
+
+part-put-down-end-2 : tie.Need-part-put-down-end-2 Inv-loop μ-loop
+part-put-down-end-2 c = omega (arith, c .before .before .before .good .1 .1 .1 .0, laying-place (c .before .before .loop .inv) (c .before .loop-test .taken))
+
+put-down-requires : tie.Need-put-down-requires Inv-loop μ-loop
+put-down-requires c κs =
+    let a = c .before .before .before .before .args in
+    let s = 4 * a .m + 3 in
+    let j = c .before .before .before .loop .j in
+    let here = now (a .here) in (
+      c .before .before .before .before .pre .0,
+      part-long (j * 17) 17 here (omega (arith, c .before .before .before .before .pre .1, c .before .before .before .before .pre .2 .long, c .before .before .loop-test .taken)),
+      rw (part-is (j * 17) 17 here) (wide (lanesAt here (j * 17)) (each-lanes here (j * 17) (c .before .before .before .before .pre .2 .inside))),
+      part-long (j * s) s (c .before .before .before .loop .cells) (laying-place (c .before .before .before .loop .inv) (c .before .before .loop-test .taken)),
     )
 
 add-j : tie.Need-add-j Inv-loop μ-loop
@@ -73,13 +91,21 @@ loop-less : tie.Need-loop-less Inv-loop μ-loop
 loop-less c = search needs
 
 loop-again : tie.Need-loop-again Inv-loop μ-loop
-loop-again c = downs-more (c .before .before .before .before .before .loop .inv) (c .before .before .before .before .loop-test .taken) (c .before .before .before .lanes-at .ensures) (c .before .put-node .ensures)
+loop-again c =
+    let a = c .before .before .before .before .before .before .args in
+    let j = c .before .before .before .before .before .loop .j in
+    let here = now (a .here) in
+    let zeros = replicate 17 (pos 0) in
+    let t = c .before .before .before .before .loop-test .taken in
+    laying-more (c .before .before .before .before .before .loop .inv) (downCells (a .m) here j) t (c .before .put-down .ensures ∙ ap (λ l. nodeLanes (a .m) l zeros) (part-is (j * 17) 17 here)) (node-long (a .m) (lanesAt here (j * 17)) zeros) (downs-next (a .m) (a .w) here j t)
 
 same-length : tie.Need-same-length Inv-loop μ-loop
-same-length c = c .before .loop .inv .long ∙ sym (c .before .before .pre .3)
+same-length c = c .before .loop .inv .long
 
 returns : tie.Need-returns Inv-loop μ-loop
-returns c = downs-end (c .before .loop .inv) (c .loop-test .left)
+returns c =
+    let a = c .before .before .args in
+    laying-all (c .before .loop .inv) (c .loop-test .left) (downs-none (a .m) (a .w) (now (a .here))) (c .before .before .pre .3) ∙ downs-all (a .m) (a .w) (now (a .here))
 
 pub put-downs-spec : {M : Type 1} → statement M
 put-downs-spec =
@@ -90,16 +116,21 @@ put-downs-spec =
     mul-size
     add-size
     loop-holds
-    mul-lanes-at
-    lanes-at-requires
-    mul-put-node
-    mul-put-node-2
-    add-put-node
-    mul-put-node-3
-    sub-put-node
-    part-put-node-start
-    part-put-node-end
-    put-node-requires
+    mul-put-down
+    mul-put-down-2
+    add-put-down
+    mul-put-down-3
+    sub-put-down
+    part-put-down-start
+    part-put-down-end
+    mul-put-down-4
+    mul-put-down-5
+    add-put-down-2
+    mul-put-down-6
+    sub-put-down-2
+    part-put-down-start-2
+    part-put-down-end-2
+    put-down-requires
     add-j
     loop-less
     loop-again

@@ -1,23 +1,21 @@
--- `put_ups` meets its contract: a turn lays one node's cells again, with its up numbers.
-use mathlib.Core.Path.{sym, _∙_}
+-- `put_ups` meets its contract: a turn lays one node's up numbers beside its down numbers.
+use mathlib.Core.Path.{_∙_}
 use Prim.Native.Nat.{_-_, _+_, _*_}
 use native.Mathlib.Omega.{arith}
-use borrow.Author.Needs.{needs}
 use denote.Ref.{now}
 use lib.ListN.{take, drop}
 use Rattle.laws.specs.Z.{Within}
-use Rattle.laws.proofs.Each.{each-take}
 use Rattle.lent.specs.Lanes.{lanesAt}
-use Rattle.lent.specs.Passes.{downLanes}
-use Rattle.rows.proofs.Laid.{part-long}
-use Rattle.rows.proofs.Lanes.{wide, each-lanes}
-use Rattle.rows.proofs.Cells.{each-down}
-use Rattle.rows.proofs.Layers.{Ups, ups-start, ups-place, ups-more, ups-end}
+use Rattle.lent.specs.Passes.{nodeLanes, downLanes, HalfNode}
+use Rattle.lent.proofs.Whole.{node-long}
+use Rattle.rows.proofs.Laid.{part-is, part-long, Laying, laying-start, laying-place, laying-part, laying-more, laying-all}
+use Rattle.rows.proofs.Layers.{each-part, each-in-part, upsLeft, ups-next, ups-none, ups-all}
+use borrow.Author.Needs.{needs}
 use Rattle.rows.proofs.put_ups.Statement.{statement}
 use Rattle.rows.proofs.put_ups.Tie as tie
 
 abbrev Inv-loop : tie.InvT-loop
-Inv-loop m w here cells₀ size j₀ cells j = Ups m w here cells₀ cells j
+Inv-loop m w here cells₀ size j₀ cells j = Laying (4 * m + 3) w (upsLeft m w here cells₀) cells₀ cells j
 
 abbrev μ-loop : tie.MeasureT-loop
 μ-loop m w here cells₀ size j₀ cells j = w - j
@@ -29,78 +27,61 @@ add-size : tie.Need-add-size Inv-loop μ-loop
 add-size c = search needs
 
 loop-holds : tie.Need-loop-holds Inv-loop μ-loop
-loop-holds c = ups-start (c .args .m) (c .args .w) (now (c .args .here)) (now (c .args .cells)) (c .pre .3) (c .pre .4)
+loop-holds c = laying-start (omega (arith, c .pre .4 .long))
 
-mul-lanes-at : tie.Need-mul-lanes-at Inv-loop μ-loop
-mul-lanes-at c = omega (arith, c .before .before .pre .1)
+mul-put-up : tie.Need-mul-put-up Inv-loop μ-loop
+mul-put-up c = omega (arith, c .before .before .pre .1)
 
-lanes-at-requires : tie.Need-lanes-at-requires Inv-loop μ-loop
-lanes-at-requires c κs = omega (arith, c .before .before .pre .1, c .before .before .pre .2 .long)
+mul-put-up-2 : tie.Need-mul-put-up-2 Inv-loop μ-loop
+mul-put-up-2 c = omega (arith, c .before .before .pre .1)
 
-mul-down-lanes : tie.Need-mul-down-lanes Inv-loop μ-loop
-mul-down-lanes c = omega (arith, c .before .before .before .good .1 .1 .1 .0, ups-place (c .before .before .loop .inv) (c .before .loop-test .taken))
+add-put-up : tie.Need-add-put-up Inv-loop μ-loop
+add-put-up c = omega (arith, c .before .before .pre .1)
 
-mul-down-lanes-2 : tie.Need-mul-down-lanes-2 Inv-loop μ-loop
-mul-down-lanes-2 c = omega (arith, c .before .before .before .good .1 .1 .1 .0, ups-place (c .before .before .loop .inv) (c .before .loop-test .taken))
+mul-put-up-3 : tie.Need-mul-put-up-3 Inv-loop μ-loop
+mul-put-up-3 c = omega (arith, c .before .before .pre .1)
 
-add-down-lanes : tie.Need-add-down-lanes Inv-loop μ-loop
-add-down-lanes c = omega (arith, c .before .before .before .good .1 .1 .1 .0, ups-place (c .before .before .loop .inv) (c .before .loop-test .taken))
+sub-put-up : tie.Need-sub-put-up Inv-loop μ-loop
+sub-put-up c = search needs
 
-mul-down-lanes-3 : tie.Need-mul-down-lanes-3 Inv-loop μ-loop
-mul-down-lanes-3 c = omega (arith, c .before .before .before .good .1 .1 .1 .0, ups-place (c .before .before .loop .inv) (c .before .loop-test .taken))
+part-put-up-start : tie.Need-part-put-up-start Inv-loop μ-loop
+part-put-up-start c = search needs
 
-sub-down-lanes : tie.Need-sub-down-lanes Inv-loop μ-loop
-sub-down-lanes c = search needs
+part-put-up-end : tie.Need-part-put-up-end Inv-loop μ-loop
+part-put-up-end c = omega (arith, c .before .before .pre .1, c .before .before .pre .2)
 
-part-down-lanes-start : tie.Need-part-down-lanes-start Inv-loop μ-loop
-part-down-lanes-start c = search needs
+mul-put-up-4 : tie.Need-mul-put-up-4 Inv-loop μ-loop
+mul-put-up-4 c = omega (arith, c .before .before .before .good .1 .1 .1 .0, laying-place (c .before .before .loop .inv) (c .before .loop-test .taken))
 
-part-down-lanes-end : tie.Need-part-down-lanes-end Inv-loop μ-loop
-part-down-lanes-end c = omega (arith, c .before .before .before .before .good .1 .1 .1 .0, ups-place (c .before .before .before .loop .inv) (c .before .before .loop-test .taken))
+mul-put-up-5 : tie.Need-mul-put-up-5 Inv-loop μ-loop
+mul-put-up-5 c = omega (arith, c .before .before .before .good .1 .1 .1 .0, laying-place (c .before .before .loop .inv) (c .before .loop-test .taken))
 
-down-lanes-requires : tie.Need-down-lanes-requires Inv-loop μ-loop
-down-lanes-requires c κs =
-    let x = c .before .before .before .before .before in
-    let l = c .before .before .before .before .loop in
-    let s = 4 * x .args .m + 3 in
-    let at = l .j * s in (
-      x .pre .0,
-      part-long at s (l .cells) (ups-place (l .inv) (c .before .before .before .loop-test .taken)),
-      each-take (Within 4000000) (at + s - at) (drop at (l .cells)) (l .inv .inside),
-    )
+add-put-up-2 : tie.Need-add-put-up-2 Inv-loop μ-loop
+add-put-up-2 c = omega (arith, c .before .before .before .good .1 .1 .1 .0, laying-place (c .before .before .loop .inv) (c .before .loop-test .taken))
 
-mul-put-node : tie.Need-mul-put-node Inv-loop μ-loop
-mul-put-node c = omega (arith, c .before .before .before .before .before .before .good .1 .1 .1 .0, ups-place (c .before .before .before .before .before .loop .inv) (c .before .before .before .before .loop-test .taken))
+mul-put-up-6 : tie.Need-mul-put-up-6 Inv-loop μ-loop
+mul-put-up-6 c = omega (arith, c .before .before .before .good .1 .1 .1 .0, laying-place (c .before .before .loop .inv) (c .before .loop-test .taken))
 
-mul-put-node-2 : tie.Need-mul-put-node-2 Inv-loop μ-loop
-mul-put-node-2 c = omega (arith, c .before .before .before .before .before .before .good .1 .1 .1 .0, ups-place (c .before .before .before .before .before .loop .inv) (c .before .before .before .before .loop-test .taken))
+sub-put-up-2 : tie.Need-sub-put-up-2 Inv-loop μ-loop
+sub-put-up-2 c = search needs
 
-add-put-node : tie.Need-add-put-node Inv-loop μ-loop
-add-put-node c = omega (arith, c .before .before .before .before .before .before .good .1 .1 .1 .0, ups-place (c .before .before .before .before .before .loop .inv) (c .before .before .before .before .loop-test .taken))
+part-put-up-start-2 : tie.Need-part-put-up-start-2 Inv-loop μ-loop
+part-put-up-start-2 c = search needs
 
-mul-put-node-3 : tie.Need-mul-put-node-3 Inv-loop μ-loop
-mul-put-node-3 c = omega (arith, c .before .before .before .before .before .before .good .1 .1 .1 .0, ups-place (c .before .before .before .before .before .loop .inv) (c .before .before .before .before .loop-test .taken))
+part-put-up-end-2 : tie.Need-part-put-up-end-2 Inv-loop μ-loop
+part-put-up-end-2 c = omega (arith, c .before .before .before .good .1 .1 .1 .0, laying-place (c .before .before .loop .inv) (c .before .loop-test .taken))
 
-sub-put-node : tie.Need-sub-put-node Inv-loop μ-loop
-sub-put-node c = search needs
-
-part-put-node-start : tie.Need-part-put-node-start Inv-loop μ-loop
-part-put-node-start c = search needs
-
-part-put-node-end : tie.Need-part-put-node-end Inv-loop μ-loop
-part-put-node-end c = omega (arith, c .before .before .before .before .before .before .good .1 .1 .1 .0, ups-place (c .before .before .before .before .before .loop .inv) (c .before .before .before .before .loop-test .taken))
-
-put-node-requires : tie.Need-put-node-requires Inv-loop μ-loop
-put-node-requires c κs =
-    let x = c .before .before .before .before .before .before .before in
-    let l = c .before .before .before .before .before .before .loop in
-    let s = 4 * x .args .m + 3 in
-    let at = l .j * s in
-    let part = take (at + s - at) (drop at (l .cells)) in (
-      x .pre .0,
-      part-long at s (l .cells) (ups-place (l .inv) (c .before .before .before .before .before .loop-test .taken)),
-      rw (c .before .down-lanes .ensures) (wide (downLanes (x .args .m) part) (each-down (x .args .m) part (each-take (Within 4000000) (at + s - at) (drop at (l .cells)) (l .inv .inside)))),
-      rw (c .before .before .before .before .lanes-at .ensures) (wide (lanesAt (now (x .args .here)) (l .j * 17)) (each-lanes (now (x .args .here)) (l .j * 17) (x .pre .2 .inside))),
+put-up-requires : tie.Need-put-up-requires Inv-loop μ-loop
+put-up-requires c κs =
+    let a = c .before .before .before .before .args in
+    let s = 4 * a .m + 3 in
+    let j = c .before .before .before .loop .j in
+    let t = c .before .before .loop-test .taken in
+    let here = now (a .here) in (
+      c .before .before .before .before .pre .0,
+      part-long (j * 17) 17 here (omega (arith, c .before .before .before .before .pre .1, c .before .before .before .before .pre .2)),
+      rw (part-is (j * 17) 17 here) (each-in-part (Within 10000000) (a .w) 17 here j t (c .before .before .before .before .pre .3)),
+      rw (laying-part (c .before .before .before .loop .inv)) (each-part (HalfNode (a .m)) (a .w) s (now (a .cells)) j t (c .before .before .before .before .pre .4 .nodes)),
     )
 
 add-j : tie.Need-add-j Inv-loop μ-loop
@@ -111,14 +92,22 @@ loop-less c = search needs
 
 loop-again : tie.Need-loop-again Inv-loop μ-loop
 loop-again c =
-    let l = c .before .before .before .before .before .before .before .before .loop in
-    ups-more (l .inv) (c .before .before .before .before .before .before .before .loop-test .taken) (c .before .before .before .down-lanes .ensures) (c .before .before .before .before .before .before .lanes-at .ensures) (c .before .put-node .ensures)
+    let a = c .before .before .before .before .before .before .args in
+    let m = a .m in
+    let j = c .before .before .before .before .before .loop .j in
+    let here = now (a .here) in
+    let part = take (4 * m + 3) (drop (j * (4 * m + 3)) (now (a .cells))) in
+    let t = c .before .before .before .before .loop-test .taken in
+    laying-more (c .before .before .before .before .before .loop .inv) (nodeLanes m (downLanes m part) (lanesAt here (j * 17))) t (c .before .put-up .ensures ∙ (λ i. nodeLanes m (downLanes m (laying-part (c .before .before .before .before .before .loop .inv) i)) (part-is (j * 17) 17 here i))) (node-long m (downLanes m part) (lanesAt here (j * 17)))
+    (ups-next m (a .w) here (now (a .cells)) j t)
 
 same-length : tie.Need-same-length Inv-loop μ-loop
-same-length c = c .before .loop .inv .long ∙ sym (c .before .before .pre .3)
+same-length c = c .before .loop .inv .long
 
 returns : tie.Need-returns Inv-loop μ-loop
-returns c = ups-end (c .before .loop .inv) (c .loop-test .left)
+returns c =
+    let a = c .before .before .args in
+    laying-all (c .before .loop .inv) (c .loop-test .left) (ups-none (a .m) (a .w) (now (a .here)) (now (a .cells))) (c .before .before .pre .4 .long) ∙ ups-all (a .m) (a .w) (now (a .here)) (now (a .cells))
 
 pub put-ups-spec : {M : Type 1} → statement M
 put-ups-spec =
@@ -129,24 +118,21 @@ put-ups-spec =
     mul-size
     add-size
     loop-holds
-    mul-lanes-at
-    lanes-at-requires
-    mul-down-lanes
-    mul-down-lanes-2
-    add-down-lanes
-    mul-down-lanes-3
-    sub-down-lanes
-    part-down-lanes-start
-    part-down-lanes-end
-    down-lanes-requires
-    mul-put-node
-    mul-put-node-2
-    add-put-node
-    mul-put-node-3
-    sub-put-node
-    part-put-node-start
-    part-put-node-end
-    put-node-requires
+    mul-put-up
+    mul-put-up-2
+    add-put-up
+    mul-put-up-3
+    sub-put-up
+    part-put-up-start
+    part-put-up-end
+    mul-put-up-4
+    mul-put-up-5
+    add-put-up-2
+    mul-put-up-6
+    sub-put-up-2
+    part-put-up-start-2
+    part-put-up-end-2
+    put-up-requires
     add-j
     loop-less
     loop-again

@@ -1,54 +1,75 @@
 -- `raise_node` meets its contract: a turn counts and tests one arc.
+use mathlib.Core.Bool.{true≢false}
 use mathlib.Core.Logic.{⊎-elim}
-use Prim.Native.Nat.{_-_}
+use mathlib.Core.Path.{sym, _∙_}
+use Prim.Native.Nat.{_-_, _*_}
 use native.Mathlib.Omega.{arith}
-use borrow.Author.Needs.{needs}
 use borrow.Author.Tests.{not-true, not-false}
 use denote.Ref.{now}
 use lib.ListN.{getD}
-use Rattle.rows.proofs.Lanes.{wide}
-use Rattle.rows.proofs.Up.{each-arc, Tested, tested-start, tested-byte, tested-none, tested-stays, tested-falls, tested-up, tested-bytes, tested-fell}
+use Rattle.lent.specs.Lanes.{lanesAt, sums}
+use Rattle.rows.proofs.Lanes.{wide, each-lanes, far-at-yes, far-at-no}
+use Rattle.rows.proofs.Up.{Tested, tested-start, tested-byte, tested-none, tested-lone, tested-stays, tested-falls, tested-up, tested-bytes, tested-fell}
+use borrow.Author.Needs.{needs}
 use Rattle.rows.proofs.raise_node.Statement.{statement}
 use Rattle.rows.proofs.raise_node.Tie as tie
 
 abbrev Inv-loop : tie.InvT-loop
-Inv-loop row next down limit arcs₀ up₀ fell₀ v₀ arcs up fell v = Tested row next down limit arcs₀ arcs up fell v
+Inv-loop row next room arcs₀ up₀ fell₀ v₀ arcs up fell v = Tested row next room arcs₀ arcs up fell v
 
 abbrev μ-loop : tie.MeasureT-loop
-μ-loop row next down limit arcs₀ up₀ fell₀ v₀ arcs up fell v = 8 - v
+μ-loop row next room arcs₀ up₀ fell₀ v₀ arcs up fell v = 8 - v
 
 loop-holds : tie.Need-loop-holds Inv-loop μ-loop
-loop-holds c = let a = c .before .args in tested-start (now (a .row)) (now (a .next)) (a .down) (a .limit) (now (a .arcs))
+loop-holds c = let a = c .before .args in tested-start (now (a .row)) (now (a .next)) (a .room) (now (a .arcs))
 
 slice-read-b : tie.Need-slice-read-b Inv-loop μ-loop
-slice-read-b c = omega (arith, c .before .before .loop .inv .long, c .before .before .before .before .pre .3)
+slice-read-b c = omega (arith, c .before .before .loop .inv .long, c .before .before .before .before .pre .2)
 
 cast-b : tie.Need-cast-b Inv-loop μ-loop
-cast-b c = let x = c .before .before .before .before in omega (arith, tested-byte (c .before .before .loop .inv) (x .pre .3) (x .pre .4))
+cast-b c = omega (arith, tested-byte (c .before .before .loop .inv) (c .before .before .before .before .pre .2) (c .before .before .before .before .pre .3))
 
-sub-arc-lanes : tie.Need-sub-arc-lanes Inv-loop μ-loop
-sub-arc-lanes c = search needs
+sub-to : tie.Need-sub-to Inv-loop μ-loop
+sub-to c = search needs
 
-arc-lanes-requires : tie.Need-arc-lanes-requires Inv-loop μ-loop
-arc-lanes-requires c κs =
-    let x = c .before .before .before .before .before in
-    let l = c .before .before .before .loop in
-    (x .pre .0, omega (arith, c .before .before .loop-test .taken), x .pre .1, omega (arith, tested-byte (l .inv) (x .pre .3) (x .pre .4), c .if1 .taken))
+mul-to : tie.Need-mul-to Inv-loop μ-loop
+mul-to c = omega (arith, tested-byte (c .before .before .before .loop .inv) (c .before .before .before .before .before .pre .2) (c .before .before .before .before .before .pre .3), c .if1 .taken)
 
-least-of-requires : tie.Need-least-of-requires Inv-loop μ-loop
-least-of-requires c κs = tt
+add-if2 : tie.Need-add-if2 Inv-loop μ-loop
+add-if2 c = omega (arith, tested-byte (c .before .before .before .loop .inv) (c .before .before .before .before .before .pre .2) (c .before .before .before .before .before .pre .3), c .if1 .taken)
+
+mul-if2 : tie.Need-mul-if2 Inv-loop μ-loop
+mul-if2 c = omega (arith, tested-byte (c .before .before .before .loop .inv) (c .before .before .before .before .before .pre .2) (c .before .before .before .before .before .pre .3), c .if1 .taken)
+
+shared-slice-copy-out-if2 : tie.Need-shared-slice-copy-out-if2 Inv-loop μ-loop
+shared-slice-copy-out-if2 c = omega (arith, tested-byte (c .before .before .before .loop .inv) (c .before .before .before .before .before .pre .2) (c .before .before .before .before .before .pre .3), c .if1 .taken, c .before .before .before .before .before .pre .1 .long)
+
+lanes-at-requires : tie.Need-lanes-at-requires Inv-loop μ-loop
+lanes-at-requires c κs = omega (arith, tested-byte (c .before .before .before .before .before .loop .inv) (c .before .before .before .before .before .before .before .pre .2) (c .before .before .before .before .before .before .before .pre .3), c .before .before .if1 .taken, c .before .before .before .before .before .before .before .pre .1 .long)
+
+mul-lanes-at : tie.Need-mul-lanes-at Inv-loop μ-loop
+mul-lanes-at c = search needs
+
+lanes-at-requires-2 : tie.Need-lanes-at-requires-2 Inv-loop μ-loop
+lanes-at-requires-2 c κs = omega (arith, c .before .before .before .before .before .before .before .before .pre .0 .long, c .before .before .before .before .before .loop-test .taken)
 
 sum-of-requires : tie.Need-sum-of-requires Inv-loop μ-loop
 sum-of-requires c κs =
-    let x = c .before .before .before .before .before .before .before in
-    let l = c .before .before .before .before .before .loop in
-    (wide (x .args .down) (x .pre .2), rw (c .before .arc-lanes .ensures) (each-arc (now (x .args .row)) (now (x .args .next)) (x .pre .0 .inside) (x .pre .1 .inside) (l .v) (getD (l .arcs) (l .v) 0 - 1)))
+    let a = c .before .before .before .before .before .before .before .before .before .args in
+    let l = c .before .before .before .before .before .before .before .loop in
+    let to = (getD (l .arcs) (l .v) 0 - 1) * 17 in (
+      rw (c .before .lanes-at .ensures) (wide (lanesAt (now (a .next)) to) (each-lanes (now (a .next)) to (c .before .before .before .before .before .before .before .before .before .pre .1 .inside))),
+      rw (c .lanes-at2 .ensures) (wide (lanesAt (now (a .row)) (l .v * 17)) (each-lanes (now (a .row)) (l .v * 17) (c .before .before .before .before .before .before .before .before .before .pre .0 .inside))),
+    )
+
+least-of-requires : tie.Need-least-of-requires Inv-loop μ-loop
+least-of-requires c κs = tt
 
 at-most-requires : tie.Need-at-most-requires Inv-loop μ-loop
 at-most-requires c κs = tt
 
 slice-write-arcs : tie.Need-slice-write-arcs Inv-loop μ-loop
-slice-write-arcs c = omega (arith, c .before .before .before .before .before .before .before .before .loop .inv .long, c .before .before .before .before .before .before .before .before .before .before .pre .3)
+slice-write-arcs c = omega (arith, c .before .before .before .before .before .before .loop .inv .long, c .before .before .before .before .before .before .before .before .pre .2)
 
 add-v : tie.Need-add-v Inv-loop μ-loop
 add-v c = search needs
@@ -58,14 +79,23 @@ loop-less c = search needs
 
 loop-again : tie.Need-loop-again Inv-loop μ-loop
 loop-again c =
-    let x = c .before .before .before .before .before in
+    let next = now (c .before .before .before .before .before .args .next) in
     let l = c .before .before .before .loop in
     let t = c .before .before .loop-test .taken in
-    let eight = x .pre .3 in
+    let eight = c .before .before .before .before .before .pre .2 in
+    let to = (getD (l .arcs) (l .v) 0 - 1) * 17 in
     ⊎-elim
-    (λ w. rw (w .6, w .7, w .8) (tested-falls (l .inv) eight t (w .0 .taken) (w .1 .ensures) (w .2 .ensures) (w .3 .ensures) (w .4 .ensures) (not-true _ (w .5 .taken))))
+    (λ w.
+    ⊎-elim
+    (λ y. rw (w .4, w .5, y .6, w .6) (tested-falls (l .inv) eight t (w .0 .taken) (far-at-no next to (y .0 .taken)) (y .3 .ensures ∙ λ i. sums (y .1 .ensures i) (y .2 .ensures i)) (y .4 .ensures) (y .5 .ensures) (sym (y .7) ∙ not-true _ (w .3 .taken))))
+    (λ y. rw (w .4, w .5, y .1, w .6) (tested-lone (l .inv) eight t (w .0 .taken) (far-at-yes next to (w .1 .given) (y .0 .left))))
+    (w .2 .came))
     (⊎-elim
-    (λ w. rw (w .6, w .7, w .8) (tested-stays (l .inv) eight t (w .0 .taken) (w .1 .ensures) (w .2 .ensures) (w .3 .ensures) (w .4 .ensures) (not-false _ (w .5 .left))))
+    (λ w.
+    ⊎-elim
+    (λ y. rw (w .4, w .5, y .6, w .6) (tested-stays (l .inv) eight t (w .0 .taken) (far-at-no next to (y .0 .taken)) (y .3 .ensures ∙ λ i. sums (y .1 .ensures i) (y .2 .ensures i)) (y .4 .ensures) (y .5 .ensures) (sym (y .7) ∙ not-false _ (w .3 .left))))
+    (λ y. absurd (true≢false (sym (not-false _ (w .3 .left)) ∙ y .2)))
+    (w .2 .came))
     (λ w. rw (w .1, w .2, w .3) (tested-none (l .inv) eight t (w .0 .left))))
     (c .if1 .came)
 
@@ -74,7 +104,7 @@ same-length c = c .before .loop .inv .long
 
 returns : tie.Need-returns Inv-loop μ-loop
 returns c =
-    let eight = c .before .before .before .pre .3 in
+    let eight = c .before .before .before .pre .2 in
     let s = c .before .loop .inv in
     (tested-up s eight (c .loop-test .left), (tested-bytes s eight (c .loop-test .left), tested-fell s eight (c .loop-test .left)))
 
@@ -87,10 +117,16 @@ raise-node-spec =
     loop-holds
     slice-read-b
     cast-b
-    sub-arc-lanes
-    arc-lanes-requires
-    least-of-requires
+    sub-to
+    mul-to
+    add-if2
+    mul-if2
+    shared-slice-copy-out-if2
+    lanes-at-requires
+    mul-lanes-at
+    lanes-at-requires-2
     sum-of-requires
+    least-of-requires
     at-most-requires
     slice-write-arcs
     add-v
