@@ -1,19 +1,18 @@
 -- Do states that are filled up with zeros make the same states, places, nodes and bytes as those of the rules alone?
 use mathlib.Core.Path.{_≡_, refl, sym, ap, _∙_}
-use mathlib.Core.List.{List, [], _∷_, _++_, map, map-append}
+use mathlib.Core.List.{List, [], _∷_, _++_, map}
 use mathlib.Core.Bool.{Bool, true, false, cond}
 use mathlib.Core.Option.{Option, none, some, Option·map}
-use Prim.Native.Nat.{ℕ, zero, suc, _-_, _≤_}
+use Prim.Native.Nat.{ℕ, suc, _-_, _≤_}
 use native.Mathlib.Omega.{arith}
 use lib.Dec.{leb}
-use lib.ListN.{length, take, drop, length-map}
+use lib.ListN.{length, take, drop}
 use Rattle.laws.specs.Z.{minZ}
 use Rattle.laws.specs.Lists.{place, padded}
 use Rattle.laws.proofs.Each.{Each, each-append, each-take, each-drop}
 use Rattle.meaning.specs.Diagram.{State, mergedState, Node, has, arrive, distinct, Builder, relaxed, restricted, mergedNode, mergedAll, shared, nodesOf, arcByte, sinkByte}
 use Rattle.state.proofs.Joined.{noPair}
-use Rattle.state.proofs.Padded.{merged-padded, equal-padded}
-use Rattle.state.proofs.Sizes.{merged-length}
+use Rattle.state.proofs.Padded.{equal-padded}
 use Rattle.classes.specs.Classes.{classByte}
 use Rattle.layer.specs.Places.{placed}
 
@@ -63,17 +62,6 @@ fill n = (padded 8 noPair (n .0), n .1)
 abbrev pub Long : ℕ → State → Type 0
 Long m t = length t ≡ m
 
-module _ {A B : Type 0} (f : A → B) where
-  map-take : (k : ℕ) (l : List A) → take k (map f l) ≡ map f (take k l)
-  map-take zero l = refl
-  map-take (suc k) [] = refl
-  map-take (suc k) (x ∷ l) = ap (λ (r : List B). f x ∷ r) (map-take k l)
-
-  map-drop : (k : ℕ) (l : List A) → drop k (map f l) ≡ map f (drop k l)
-  map-drop zero l = refl
-  map-drop (suc k) [] = refl
-  map-drop (suc k) (x ∷ l) = map-drop k l
-
 module _ (m : ℕ) (few : m ≤ 8) where
   has-filled : (t : State) (n : Node) → Long m t → Of (Long m) n → has (padded 8 noPair t) (fill n) ≡ has t n
   has-filled t n e h = equal-padded 8 t (n .0) (e ∙ sym h) (omega arith)
@@ -99,26 +87,6 @@ module _ (m : ℕ) (few : m ≤ 8) where
   -- the states
   pub distinct-filled : (xs : List (Option Node)) → Each (OfIf (Long m)) xs → distinct [] (map (Option·map fill) xs) ≡ map fill (distinct [] xs)
   distinct-filled xs h = distinct-seen [] xs tt h
-
-  merged-filled : (n : Node) (l : List Node) → Of (Long m) n → Each (Of (Long m)) l → mergedAll (fill n) (map fill l) ≡ fill (mergedAll n l)
-  merged-filled n [] e h = refl
-  merged-filled n (k ∷ l) e h =
-      let same = e ∙ sym (h .0) in
-      ap (λ s. mergedAll (s, minZ (n .1) (k .1)) (map fill l)) (merged-padded 8 (n .0) (k .0) same) ∙ merged-filled (mergedNode n k) l (merged-length (n .0) (k .0) same ∙ e) (h .1)
-
-  shared-filled : (l : List Node) → Each (Of (Long m)) l → shared (map fill l) ≡ map fill (shared l)
-  shared-filled [] h = refl
-  shared-filled (n ∷ l) h = rw (merged-filled n l (h .0) (h .1))
-
-  -- the nodes
-  pub nodes-filled : (b : Builder) (w : ℕ) (ts : List Node) → Each (Of (Long m)) ts → nodesOf b w (map fill ts) ≡ map fill (nodesOf b w ts)
-  nodes-filled restricted w ts h = map-take fill w ts
-  nodes-filled relaxed w ts h =
-      rw (length-map ts fill, map-take fill (w - 1) ts, map-drop fill (w - 1) ts, shared-filled (drop (w - 1) ts) (each-drop (Of (Long m)) (w - 1) ts h)) (go (leb (length ts) w))
-    where
-      go : (t : Bool) → cond t (map fill ts) (map fill (take (w - 1) ts) ++ map fill (shared (drop (w - 1) ts))) ≡ map fill (cond t ts (take (w - 1) ts ++ shared (drop (w - 1) ts)))
-      go true = refl
-      go false = sym (map-append fill (take (w - 1) ts) (shared (drop (w - 1) ts)))
 
   -- ---- the bytes
   class-filled : (ts : List Node) (x : Option Node) → Each (Of (Long m)) ts → OfIf (Long m) x → classByte (map fill ts) (Option·map fill x) ≡ classByte ts x

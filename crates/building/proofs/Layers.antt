@@ -1,14 +1,13 @@
 -- Is a layer that is made from a row the layer of the meaning?
-use mathlib.Core.Path.{_≡_, refl, sym, ap, _∙_}
+use mathlib.Core.Path.{_≡_, refl, sym, ap, subst, _∙_}
 use mathlib.Core.List.{List, [], _∷_, _++_, map, map-append}
-use mathlib.Core.Bool.{Bool, true, false, cond}
+use mathlib.Core.Bool.{Bool, true, false, _||_, cond, true≢false}
 use mathlib.Core.Option.{Option, Option·map}
 use Prim.Native.Nat.{ℕ, suc, min, _+_, _*_, _-_, _≤_}
 use native.Mathlib.Omega.{arith}
 use borrow.Author.Tests.{leb-true, leb-false}
 use lib.Dec.{leb}
 use lib.ListN.{length, take, drop, replicate, length-map, length-append, length-take, length-drop}
-use lib.IntN.{ℤ, pos}
 use Rattle.laws.specs.Lists.{flat, padded}
 use Rattle.laws.proofs.Each.{Each}
 use Rattle.meaning.specs.Plan.{Campaign}
@@ -18,8 +17,8 @@ use Rattle.lent.specs.Wide.{Sized}
 use Rattle.lent.proofs.FirstOrder.{first-states}
 use Rattle.classes.specs.Classes.{classByte}
 use Rattle.layer.specs.Places.{builderOf, placed}
-use Rattle.building.specs.Layers.{rowOf, Made}
-use Rattle.building.proofs.Filled.{Of, OfIf, fill, Long, distinct-of, nodes-of, distinct-filled, nodes-filled, arcs-filled, sinks-filled}
+use Rattle.building.specs.Layers.{Made}
+use Rattle.building.proofs.Filled.{Of, OfIf, fill, Long, distinct-of, nodes-of, distinct-filled, arcs-filled, sinks-filled}
 use Rattle.building.proofs.Lists.{map-flat, zeros-map, padded-front, flat-long, flat-padded}
 use Rattle.building.proofs.Children.{Totals, totals-merged, Nodes, nodes-long, arrivals-long, arrivals-totals}
 
@@ -46,6 +45,15 @@ module _ (b : Builder) (q : Campaign) (w i : ℕ) (ns : List Node) (s : ℕ) whe
       let os = map (arrivals firstAppearance q i s (t ∷ ss)) ns in
       length-map os (map (arcByte b w (states os))) ∙ length-map ns (arrivals firstAppearance q i s (t ∷ ss))
 
+-- either, where one is known
+or-true : (a : Bool) → (a || true) ≡ true
+or-true true = refl
+or-true false = refl
+
+or-false : (a : Bool) → (a || false) ≡ a
+or-false true = refl
+or-false false = refl
+
 -- the last slot has none behind it
 abbrev pub none-left : List ℕ → Bool
 none-left [] = true
@@ -63,22 +71,21 @@ bytes-laid w f g os bs z h k e =
     ∙ padded-front 0 (w * 8) all (omega (arith, flat-long 0 8 (map (map g) os) k))
     ∙ sym (flat-padded 0 w 8 (map (map g) os) h k)
 
--- the layer of the meaning in its bytes, in the number of states behind it, and in the next row
-pub record Stands (b : Builder) (q : Campaign) (w i : ℕ) (ns : List Node) (s : ℕ) (ss : List ℕ) (part : List ℕ) (next : List ℤ) (n : ℕ) : Type 0 where
+-- the layer of the meaning in its bytes, and in the number of states behind it, of which the last has none
+pub record Stands (b : Builder) (q : Campaign) (w i : ℕ) (ns : List Node) (s : ℕ) (ss : List ℕ) (part : List ℕ) (n : ℕ) : Type 0 where
   pub bytes : part ≡ flat (padded w (replicate 8 0) (layerAt b q w i ns s ss .arcs))
-  pub count : n ≡ length (layerAt b q w i ns s ss .states)
-  pub row : next ≡ rowOf (map fill (nextNodes b q w i ns s ss))
+  pub count : none-left ss ≡ false → n ≡ length (layerAt b q w i ns s ss .states)
 
-module _ (relax : Bool) (q : Campaign) (small : Small q) (w i : ℕ) (ns : List Node) (few : length ns ≤ 16) (h : ℕ) (totals : Nodes q h ns) (s : ℕ) where
+module _ (relax : Bool) (q : Campaign) (small : Small q) (w i : ℕ) (ns : List Node) (h : ℕ) (totals : Nodes q h ns) (s : ℕ) where
   abbrev arrived : List ℕ → List (Option Node)
   arrived ss = flat (map (arrivals firstAppearance q i s ss) ns)
 
   module _ (ss : List ℕ) where
     arrived-long : Each (OfIf (Long (length (q .rules)))) (arrived ss)
-    arrived-long = arrivals-long q (h + 7000) (arrived ss) (arrivals-totals q small i ns few h totals s ss)
+    arrived-long = arrivals-long q (h + 7000) (arrived ss) (arrivals-totals q small i ns h totals s ss)
 
     distinct-totals : Nodes q (h + 7000) (distinct [] (arrived ss))
-    distinct-totals = distinct-of (Totals (length (q .rules)) (h + 7000)) [] (arrived ss) tt (arrivals-totals q small i ns few h totals s ss)
+    distinct-totals = distinct-of (Totals (length (q .rules)) (h + 7000)) [] (arrived ss) tt (arrivals-totals q small i ns h totals s ss)
 
     distinct-long : Each (Of (Long (length (q .rules)))) (distinct [] (arrived ss))
     distinct-long = nodes-long q (h + 7000) (distinct [] (arrived ss)) distinct-totals
@@ -92,25 +99,24 @@ module _ (relax : Bool) (q : Campaign) (small : Small q) (w i : ℕ) (ns : List 
   abbrev Sizes : List ℕ → Type 0
   Sizes ss = Sized 8 w (layerAt (builderOf relax) q w i ns s ss .arcs ∷ [])
 
-  abbrev MadeOf : Bool → List ℕ → List ℕ → List ℤ → ℕ → Type 0
-  MadeOf last ss part next count = Made last relax w (map (Option·map fill) (arrived ss)) (replicate (w * 8) 0) part (replicate 256 (pos 0)) next count
+  abbrev MadeOf : Bool → ℕ → List ℕ → List ℕ → ℕ → Type 0
+  MadeOf one k ss part count = Made one k (map (Option·map fill) (arrived ss)) (replicate (w * 8) 0) part count
 
   arrived-size : (ss : List ℕ) → length (map (Option·map fill) (arrived ss)) ≡ length (arrived ss)
   arrived-size ss = length-map (arrived ss) (Option·map fill)
 
-  module _ {part : List ℕ} {next : List ℤ} {count : ℕ} where
-    last-stands : Sizes [] → MadeOf true [] part next count → Stands (builderOf relax) q w i ns s [] part next count
+  module _ {part : List ℕ} {count : ℕ} where
+    last-stands : Sizes [] → MadeOf true 1 [] part count → Stands (builderOf relax) q w i ns s [] part count
     last-stands sized m =
         let ts = distinct [] (arrived []) in
         let os = map (arrivals firstAppearance q i s []) ns in
         let bytes = sinks-filled (length (q .rules)) (small .rules) ts (distinct-long []) (arrived []) (arrived-long []) in
         record {
           bytes = m .bytes ∙ rw (arrived-size [], filled-is []) (bytes-laid w (placed relaxed 1) sinkByte os (map (classByte (map fill ts)) (map (Option·map fill) (arrived []))) refl (sized .0 .0) (sized .0 .1) bytes);
-          count = m .states;
-          row = m .row;
+          count = λ e. absurd (true≢false e);
         }
 
-    next-stands : (t : ℕ) (ss : List ℕ) → Sizes (t ∷ ss) → MadeOf false (t ∷ ss) part next count → Stands (builderOf relax) q w i ns s (t ∷ ss) part next count
+    next-stands : (t : ℕ) (ss : List ℕ) → Sizes (t ∷ ss) → MadeOf relax w (t ∷ ss) part count → Stands (builderOf relax) q w i ns s (t ∷ ss) part count
     next-stands t ss sized m =
         let b = builderOf relax in
         let os = map (arrivals firstAppearance q i s (t ∷ ss)) ns in
@@ -118,13 +124,13 @@ module _ (relax : Bool) (q : Campaign) (small : Small q) (w i : ℕ) (ns : List 
         let bytes = arcs-filled (length (q .rules)) (small .rules) b w (states os) long (arrived (t ∷ ss)) (arrived-long (t ∷ ss)) in
         record {
           bytes = m .bytes ∙ rw (arrived-size (t ∷ ss), filled-states (t ∷ ss)) (bytes-laid w (placed b w) (arcByte b w (states os)) os (map (classByte (map fill (states os))) (map (Option·map fill) (arrived (t ∷ ss)))) refl (sized .0 .0) (sized .0 .1) bytes);
-          count = m .states ∙ ap length (filled-states (t ∷ ss)) ∙ length-map (states os) fill;
-          row = m .row ∙ rw (filled-states (t ∷ ss)) (ap rowOf (nodes-filled (length (q .rules)) (small .rules) b w (states os) long));
+          count = λ e. m .states ∙ ap length (filled-states (t ∷ ss)) ∙ length-map (states os) fill;
         }
 
-    pub layer-stands : (ss : List ℕ) (last : Bool) → last ≡ none-left ss → Sizes ss → MadeOf last ss part next count → Stands (builderOf relax) q w i ns s ss part next count
-    layer-stands [] last e sized m = last-stands sized (rw e at m)
-    layer-stands (t ∷ ss) last e sized m = next-stands t ss sized (rw e at m)
+    -- the last layer is made as a relaxed one with one place
+    pub layer-stands : (ss : List ℕ) (last : Bool) → last ≡ none-left ss → Sizes ss → MadeOf (relax || last) (cond last 1 w) ss part count → Stands (builderOf relax) q w i ns s ss part count
+    layer-stands [] last e sized m = last-stands sized (subst (λ (t : Bool). MadeOf t 1 [] part count) (or-true relax) (rw e at m))
+    layer-stands (t ∷ ss) last e sized m = next-stands t ss sized (subst (λ (u : Bool). MadeOf u w (t ∷ ss) part count) (or-false relax) (rw e at m))
 
   -- the totals of the next nodes
   pub next-totals : (b : Builder) (ss : List ℕ) → Nodes q (h + 7000) (nextNodes b q w i ns s ss)

@@ -11,7 +11,5 @@ pub mod Slots
 -- loops over the rules and over the bytes
 pub mod Bounds
 pub mod Zeros
--- the calls of one layer
-pub mod Calls
 -- all slots of a problem by value
 pub mod Problems

@@ -129,3 +129,9 @@ module _ {A : Type 0} (z : A) where
   flat-padded (suc w) k (x ∷ l) h e =
       let size : suc w * k ≡ k + w * k = omega (arith, suc-mul w k) in
       rw (size, padded-row k (w * k) x (flat l) (e .0)) (ap (λ (r : List A). x ++ r) (flat-padded w k l (omega arith) (e .1)))
+
+-- a list that is filled up, and what fills it
+pub padded-split : {A : Type 0} (n : ℕ) (z : A) (l : List A) → length l ≤ n → padded n z l ≡ l ++ replicate (n - length l) z
+padded-split n z [] h = let o : n - 0 ≡ n = omega arith in rw o (padded-none z n)
+padded-split zero z (x ∷ l) h = absurd (omega arith)
+padded-split {A} (suc n) z (x ∷ l) h = let o : suc n - suc (length l) ≡ n - length l = omega arith in rw o (ap (λ (r : List A). x ∷ r) (padded-split n z l (omega arith)))

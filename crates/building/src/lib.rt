@@ -1,7 +1,7 @@
 // A diagram built layer by layer, relaxed or restricted.
 ghost use mathlib.Core.Path.{_≡_};
 ghost use mathlib.Core.List.{map};
-ghost use mathlib.Core.Bool.{_&&_};
+ghost use mathlib.Core.Bool.{_&&_, _||_, cond};
 ghost use Prim.Native.Nat.{min, _*_, _≤_};
 ghost use lib.Dec.{leb};
 ghost use lib.ListN.{length, replicate};
@@ -9,20 +9,25 @@ ghost use lib.IntN.{pos};
 ghost use Rattle.laws.specs.Lists.{from, padded};
 ghost use Rattle.meaning.specs.Problem.{version1};
 ghost use Rattle.meaning.specs.Diagram.{built, isExact};
-ghost use Rattle.meaning.specs.Buffers.{arcsNeed, arcBytes};
+ghost use Rattle.meaning.specs.Filter.{downNumbers};
+ghost use Rattle.meaning.specs.Buffers.{arcsNeed, cellsNeed, arcBytes};
 ghost use Rattle.problem.specs.Held.{faultIn, campaignOf};
-ghost use Rattle.state.specs.Pairs.{pairs, Inside};
-ghost use Rattle.classes.specs.Classes.{Held, arrivalAt};
+ghost use Rattle.state.specs.Pairs.{pairs};
+ghost use Rattle.lent.specs.Wide.{wide};
+ghost use Rattle.numbers.specs.Whole.{halfCells};
+ghost use Rattle.classes.specs.Classes.{Held, Totalled, arrivalAt};
 ghost use Rattle.layer.specs.Places.{builderOf};
 ghost use Rattle.building.specs.Layers.{Made};
+use lanes::FAR;
+use lanes::LANES;
 use problem::Problem;
 use state::Pair;
 use state::State;
 
-// The bounds of the rules as a state: lb low, ub high.
+// The bounds of the rules as a state: no low above ub, no high below lb.
 fn bounds_of(p: Problem) -> State
     requires { ⌜ faultIn version1 p ≡ 0 ⌝ }
-    ensures { λ r. ⌜ pairs r ≡ padded 8 (pos 0, pos 0) (map (λ k. (k .lb, k .ub)) (campaignOf p .rules)) ⌝ }
+    ensures { λ r. ⌜ pairs r ≡ padded 8 (pos 0, pos 0) (map (λ k. (k .ub, k .lb)) (campaignOf p .rules)) ⌝ }
 {
     let zero = Pair { lo: 0, hi: 0 };
     let mut s = State { at: [zero; 8] };
@@ -30,7 +35,7 @@ fn bounds_of(p: Problem) -> State
     while r < p.m {
         let lb = p.lb[r];
         let ub = p.ub[r];
-        s.at[r] = Pair { lo: lb, hi: ub };
+        s.at[r] = Pair { lo: ub, hi: -lb };
         r += 1;
     }
     s
@@ -54,82 +59,107 @@ fn least(a: usize, b: usize) -> usize
     if a <= b { a } else { b }
 }
 
-// No layer so far, nor this one, has more states than the width.
-fn still(exact: bool, count: usize, w: usize) -> bool
-    ensures { λ r. ⌜ r ≡ (exact && leb count w) ⌝ }
+// How many places the next layer has: the width, and one for the sink.
+fn places(last: bool, w: usize) -> usize
+    ensures { λ r. ⌜ r ≡ cond last 1 w ⌝ }
 {
+    if last { 1 } else { w }
+}
+
+// Whether states past the last place share it: in a relaxed diagram, and in the sink.
+fn shares(relax: bool, last: bool) -> bool
+    ensures { λ r. ⌜ r ≡ (relax || last) ⌝ }
+{
+    if relax { true } else { last }
+}
+
+// No layer so far, nor the next one if it is not the sink, has more states than the width.
+fn still(exact: bool, last: bool, count: usize, w: usize) -> bool
+    ensures { λ r. ⌜ r ≡ (exact && (last || leb count w)) ⌝ }
+{
+    if last {
+        return exact;
+    }
     if count <= w { exact } else { false }
 }
 
-// One layer: the bytes of its arcs, and the next layer's row, which the last layer leaves as it is. Gives the number of states of the next layer.
+// One layer: the bytes of its arcs. Gives the number of distinct states of their children.
 fn build_layer(
     relax: bool,
     w: usize,
-    last: bool,
     nodes: usize,
     here: &[i32],
     row: &[i32],
     set: u16,
-    ahead: State,
-    bounds: State,
+    limit: State,
     arcs: &mut [u8],
-    next: &mut [i32],
 ) -> usize
-    requires { ⌜ Held (now here) (now row) × Inside 1000000 (pairs ahead) × (nodes ≤ w) × (1 ≤ w) × (w ≤ 16) × (length (now arcs) ≡ w * 8) × (length (now next) ≡ 256) ⌝ }
-    ensures { λ r. ⌜ Made last relax w (map (arrivalAt (now (here .entry)) (now (row .entry)) set (pairs ahead) (pairs bounds)) (from 0 (nodes * 8))) (now (arcs .entry)) (now (arcs .exit)) (now (next .entry)) (now (next .exit)) r ⌝ }
+    requires { ⌜ Held (now here) (now row) × Totalled (now here) nodes × (1 ≤ w) × (w ≤ 16) × (nodes * 8 ≤ length (now arcs)) ⌝ }
+    ensures { λ r. ⌜ Made relax w (map (arrivalAt (now (here .entry)) (now (row .entry)) set (pairs limit)) (from 0 (nodes * 8))) (now (arcs .entry)) (now (arcs .exit)) r ⌝ }
 {
-    let mut firsts = [0u8; 128];
-    let count = classes::find(nodes, here, row, set, ahead, bounds, arcs, &mut firsts);
-    if last {
-        layer::place_arcs(true, 1, arcs);
-        return 0;
-    }
+    let count = classes::find(nodes, here, row, set, limit, arcs);
     layer::place_arcs(relax, w, arcs);
-    let made = layer::lay_nodes(relax, w, here, row, &firsts, count, next);
-    rows::zero_cells(&mut next[made * 16..256]);
     count
 }
 
-// All layers, into the arcs, zeros past their need; says whether the diagram is exact.
-pub fn build(p: Problem, relax: bool, w: usize, arcs: &mut [u8]) -> bool
-    requires { ⌜ (faultIn version1 p ≡ 0) × (1 ≤ w) × (w ≤ 16) × (arcsNeed (campaignOf p) w ≤ length (now arcs)) ⌝ }
+// All layers: the arcs, zeros past their need, and the down numbers of their nodes in the cells; says whether the diagram is exact.
+pub fn build(p: Problem, relax: bool, w: usize, arcs: &mut [u8], cells: &mut [i32]) -> bool
+    requires { ⌜ (faultIn version1 p ≡ 0) × (1 ≤ w) × (w ≤ 16) × (arcsNeed (campaignOf p) w ≤ length (now arcs)) × (length (now cells) ≡ cellsNeed (campaignOf p) w) ⌝ }
     ensures arcs { λ r. ⌜ now (arcs .exit) ≡ arcBytes (campaignOf p) w (length (now (arcs .entry))) (built (builderOf relax) (campaignOf p) w) ⌝ }
+    ensures cells { λ r. ⌜ now (cells .exit) ≡ halfCells (campaignOf p) w (downNumbers (campaignOf p) (wide 8 w (built (builderOf relax) (campaignOf p) w))) ⌝ }
     ensures exact { λ r. ⌜ r ≡ isExact (builderOf relax) (campaignOf p) w ⌝ }
 {
     let n = p.n;
     let m = p.m;
+    let bytes = w * 8;
+    let size = w * (4 * m + 3);
     let bounds = bounds_of(p);
-    let table = reach::reaches(p);
+    let mut table = [0i32; 425];
+    reach::reaches(p, &mut table);
     zero_bytes(arcs);
-    let mut here = [0i32; 256];
+    let mut here = numbers::one_node(m);
+    let mut spare = [FAR; 272];
+    let mut row = [0i32; 136];
     let mut nodes: usize = 1;
     let mut exact = true;
     let mut i: usize = 0;
     while i < n {
+        rows::put_downs(m, w, &here, &mut cells[i * size..i * size + size]);
         let set = p.sets[i];
         let weight = p.weights[i];
-        let row = slot::slot_row(m, i, weight, &p.kinds, &p.values, &p.slots, &p.coefs);
-        let ahead = state::taken(&table, (i + 1) * 16);
+        slot::slot_row(
+            m,
+            i,
+            weight,
+            &p.kinds,
+            &p.values,
+            &p.slots,
+            &p.coefs,
+            &mut row,
+        );
+        let limit = state::less(bounds, state::taken(&table, (i + 1) * LANES));
         let last = i + 1 == n;
-        let at = i * w * 8;
-        let mut next = [0i32; 256];
         let count = build_layer(
-            relax,
-            w,
-            last,
+            shares(relax, last),
+            places(last, w),
             nodes,
             &here,
             &row,
             set,
-            ahead,
-            bounds,
-            &mut arcs[at..at + w * 8],
-            &mut next,
+            limit,
+            &mut arcs[i * bytes..i * bytes + bytes],
         );
-        here = next;
+        rows::next_down(
+            w,
+            &row,
+            &mut here,
+            &arcs[i * bytes..i * bytes + bytes],
+            &mut spare,
+        );
         nodes = least(count, w);
-        exact = still(exact, count, w);
+        exact = still(exact, last, count, w);
         i += 1;
     }
+    rows::put_downs(m, w, &here, &mut cells[n * size..n * size + size]);
     exact
 }

@@ -29,9 +29,9 @@ use Rattle.lent.specs.Small.{Small, Fit}
 use Rattle.lent.specs.Led.{costOf, firstStep, firstUps, led}
 use Rattle.lent.proofs.Places.{made-at, nextDowns}
 use Rattle.lent.proofs.Led.{ups-at, Step, node-step}
+use Rattle.lent.proofs.Shape.{Form, Shaped}
 use Rattle.diagram.specs.Leading.{firstCell, Led}
 use Rattle.diagram.proofs.Table.{bytes-at}
-use Rattle.diagram.proofs.Shape.{Form, Shaped}
 use Rattle.diagram.proofs.Cells.{downAt as downOf, upAt, cost-up, source-begins, down-fits, up-fits, cell-at, cells-inside}
 
 -- ---- a node has numbers

@@ -20,7 +20,7 @@ use Rattle.meaning.proofs.Bounds.{source-absent}
 use Rattle.lent.specs.Small.{Small, Fit}
 use Rattle.lent.proofs.Places.{nextDowns}
 use Rattle.lent.proofs.Fit.{zeros-fit}
-use Rattle.diagram.proofs.Shape.{Shaped}
+use Rattle.lent.proofs.Shape.{Shaped}
 use Rattle.diagram.proofs.Cells.{downAt, upAt, cost-down, source-begins, sink-zeros, down-fits, cell-at}
 
 -- the last layer by its place

@@ -20,8 +20,8 @@ use Rattle.lent.specs.Small.{Small, Fit, FewBytes}
 use Rattle.lent.proofs.Places.{nextDowns}
 use Rattle.lent.proofs.Fit.{downs-fit, ups-fit}
 use Rattle.lent.proofs.Cells.{pairs-long, cells-within}
+use Rattle.lent.proofs.Shape.{Shaped}
 use Rattle.diagram.proofs.Table.{table, cells-table, Celled, table-even, table-rows, table-at, table-long, table-each, element-at}
-use Rattle.diagram.proofs.Shape.{Shaped}
 
 -- ---- a node's cells
 module _ (q : Campaign) (h k : ℕ) where

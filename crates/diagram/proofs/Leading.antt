@@ -23,9 +23,9 @@ use Rattle.problem.proofs.Faultless.{right}
 use Rattle.slot.proofs.Said.{said-weight, rules-long}
 use Rattle.lent.specs.Small.{Small}
 use Rattle.lent.specs.Led.{led}
+use Rattle.lent.proofs.Shape.{Shaped, built-shaped, drops-shaped}
+use Rattle.numbers.proofs.Held.{held-long}
 use Rattle.diagram.specs.Leading.{firstCell, Led, Leads}
-use Rattle.diagram.proofs.Shape.{Shaped, built-shaped, drops-shaped}
-use Rattle.diagram.proofs.Rounds.{held-long}
 use Rattle.diagram.proofs.Bounds.{source-none}
 use Rattle.diagram.proofs.Along.{Has, On, Turn, led-long, on-start, cost-is, led-right, turn}
 use Rattle.diagram.proofs.Refused.{problem-small}

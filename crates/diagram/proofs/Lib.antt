@@ -1,6 +1,5 @@
 -- What is true of both diagrams, and of what stands in the lent buffers.
--- the form of the arcs, and the rounds
-pub mod Shape
+-- the rounds
 pub mod Rounds
 -- the cells, and the bound that stands there
 pub mod Table

@@ -1,10 +1,9 @@
 -- What do a round and the closing sweep leave in the buffers, and what stands there when a round drops nothing?
 use mathlib.Core.Path.{_≡_, refl, sym, _∙_, ap}
-use mathlib.Core.List.{List, [], append-nil}
+use mathlib.Core.List.{List}
 use mathlib.Core.Bool.{false, not}
-use Prim.Native.Nat.{ℕ, zero, suc, _+_, _*_, _-_, _≤_, _<_}
+use Prim.Native.Nat.{ℕ, zero, suc, _+_, _-_, _≤_, _<_}
 use native.Mathlib.Omega.{arith}
-use native.Mathlib.Nat.{mul-comm, mul-assoc}
 use native.Mathlib.Numerals.{add-one}
 use borrow.Author.Tests.{not-false}
 use lib.ListN.{length}
@@ -12,45 +11,46 @@ use lib.IntN.{ℤ, pos}
 use Rattle.laws.specs.Lists.{same, padded}
 use Rattle.laws.proofs.Parts.{same-true}
 use Rattle.laws.proofs.Filled.{padded-full}
-use Rattle.meaning.specs.Plan.{Campaign, slots}
+use Rattle.meaning.specs.Plan.{Campaign}
 use Rattle.meaning.specs.Diagram.{relaxed, Arcs, built}
 use Rattle.meaning.specs.Filter.{downNumbers, upNumbers, Test, onPath, within, drops, rounds, swept, relaxedArcs}
-use Rattle.meaning.specs.Buffers.{arcsNeed, arcsIn, nodeNeed, allCells, numberCells}
+use Rattle.meaning.specs.Buffers.{arcsIn, nodeNeed, allCells, cellsNeed, numberCells}
 use Rattle.meaning.proofs.Drops.{finished}
+use Rattle.problem.specs.declared.Problem.{Problem}
+use Rattle.problem.specs.Held.{campaignOf}
 use Rattle.lent.specs.Wide.{wide, laid}
-use Rattle.lent.proofs.Wide.{laid-long, wide-front, wide-drops, wide-cells}
+use Rattle.lent.proofs.Wide.{wide-drops, wide-cells}
 use Rattle.lent.proofs.Swept.{swept-cells, same-sweep, laid-same}
-use Rattle.numbers.specs.Whole.{Formed}
-use Rattle.diagram.proofs.Shape.{Shaped, form-true, built-shaped, drops-shaped, rounds-shaped}
+use Rattle.lent.proofs.Shape.{Shaped, built-shaped, drops-shaped, rounds-shaped}
+use Rattle.numbers.specs.Whole.{Ready, Formed, halfCells}
+use Rattle.numbers.proofs.Passes.{setting, need-is, half-count}
+use Rattle.numbers.proofs.Held.{held-arcs}
 
 -- ---- bytes that hold the arcs of a diagram
 module _ (q : Campaign) (w : ℕ) (a : Arcs) (h : Shaped q w a) (b : List ℕ) (is : b ≡ laid (q .steps) w a) where
-  held-arcs : arcsIn q w b ≡ wide (q .steps) w a
-  held-arcs = ap (arcsIn q w) (is ∙ sym (append-nil (laid (q .steps) w a))) ∙ wide-front q w a [] (h .long) (h .sized)
-
-  pub held-long : length b ≡ arcsNeed q w
-  held-long =
-      let k = q .steps in
-      ap length is ∙ laid-long k w a (h .sized) ∙ ap (λ (n : ℕ). n * (w * k)) (h .long)
-      ∙ sym (mul-assoc (slots q) w k) ∙ mul-comm (slots q * w) k ∙ sym (mul-assoc k (slots q) w)
-
-  pub held-formed : Formed q w b
-  held-formed = record { long = held-long; form = rw held-arcs (form-true (q .steps) w a (h .form)) }
+  -- cells that hold the down numbers of the wide arcs hold those of the bytes
+  pub held-half : {x : List ℤ} → x ≡ halfCells q w (downNumbers q (wide (q .steps) w a)) → x ≡ halfCells q w (downNumbers q (arcsIn q w b))
+  held-half e = e ∙ ap (λ (m : Arcs). halfCells q w (downNumbers q m)) (sym (held-arcs q w a h b is))
 
   -- a test leaves the bytes of what it leaves of the arcs
   pub held-drops : (e : Test) {c : List ℕ} → c ≡ laid (q .steps) w (drops e q (arcsIn q w b)) → c ≡ laid (q .steps) w (drops e q a)
-  held-drops e f = f ∙ ap (λ (m : Arcs). laid (q .steps) w (drops e q m)) held-arcs ∙ wide-drops e q (q .steps) w a (h .sized)
+  held-drops e f = f ∙ ap (λ (m : Arcs). laid (q .steps) w (drops e q m)) (held-arcs q w a h b is) ∙ wide-drops e q (q .steps) w a (h .sized)
 
   -- cells of the need's length hold the numbers
   module _ (x : List ℤ) (f : x ≡ allCells (nodeNeed q) w (downNumbers q (arcsIn q w b)) (upNumbers q (arcsIn q w b))) (z : ℕ) (long : length x ≡ z) where
     held-cells : x ≡ numberCells q w z a
     held-cells =
         sym (padded-full z (pos 0) x long) ∙ ap (padded z (pos 0)) f
-        ∙ ap (numberCells q w z) held-arcs ∙ wide-cells q (q .steps) w z a (h .sized)
+        ∙ ap (numberCells q w z) (held-arcs q w a h b is) ∙ wide-cells q (q .steps) w z a (h .sized)
 
     -- which the sweep does not change
     pub held-swept : x ≡ numberCells q w z (swept q a)
     held-swept = held-cells ∙ sym (swept-cells q w z a (h .one))
+
+-- cells that hold the down numbers are of the need's length
+pub half-need : {p : Problem} {w : ℕ} {b : List ℕ} {x : List ℤ} → Ready p w → length (p .sets) ≡ 24 → Formed (campaignOf p) w b
+    → x ≡ halfCells (campaignOf p) w (downNumbers (campaignOf p) (arcsIn (campaignOf p) w b)) → length x ≡ cellsNeed (campaignOf p) w
+half-need r e f h = half-count (setting r f e) h ∙ sym (need-is r e)
 
 -- ---- the rounds
 round-behind : (c : ℤ) (q : Campaign) (k : ℕ) (a : Arcs) → rounds c q (suc k) a ≡ drops (within c) q (rounds c q k a)

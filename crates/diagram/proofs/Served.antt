@@ -5,7 +5,7 @@ use mathlib.Core.Bool.{Bool, not}
 use mathlib.Core.Option.{none, some}
 use Prim.Native.Nat.{ℕ, zero, suc, _+_, _*_, _-_, _^_, _≤_, _<_}
 use native.Mathlib.Omega.{arith}
-use lib.ListN.{length, getD, take, drop, replicate, length-drop, drop-of-length-le}
+use lib.ListN.{length, getD, take, drop, replicate, length-append, length-drop, drop-of-length-le}
 use lib.Seq.{take-at, drop-at, getD-take, length-take-le}
 use lib.IntN.{ℤ, pos}
 use lib.Signed.{mag}
@@ -27,15 +27,16 @@ use Rattle.problem.specs.declared.Problem.{Problem}
 use Rattle.problem.specs.Held.{campaignOf}
 use Rattle.problem.proofs.Faultless.{right}
 use Rattle.slot.proofs.Said.{rules-long}
-use Rattle.lent.specs.Wide.{laid}
+use Rattle.lent.specs.Wide.{wide, laid}
 use Rattle.lent.specs.Small.{Small}
 use Rattle.lent.proofs.Led.{shown-led, shown-none}
-use Rattle.numbers.specs.Whole.{Ready, Formed}
+use Rattle.lent.proofs.Shape.{Shaped, built-shaped, drops-shaped}
+use Rattle.numbers.specs.Whole.{Ready, Formed, halfCells}
+use Rattle.numbers.proofs.Held.{held-long, held-formed}
 use Rattle.diagram.specs.declared.Bound.{Bound}
 use Rattle.diagram.specs.Answers.{boundedAs}
 use Rattle.diagram.specs.Leading.{Leads}
-use Rattle.diagram.proofs.Shape.{Shaped, built-shaped, drops-shaped}
-use Rattle.diagram.proofs.Rounds.{held-long, held-formed, held-drops, held-swept}
+use Rattle.diagram.proofs.Rounds.{held-half, held-drops, held-swept}
 use Rattle.diagram.proofs.Cells.{cells-behind}
 use Rattle.diagram.proofs.Bounds.{bound-cells, source-none, source-some}
 use Rattle.diagram.proofs.Along.{led-long}
@@ -88,6 +89,10 @@ module _ {p : Problem} {w : ℕ} {arcs : List ℕ} {cells : List ℤ} (o : Open 
     pub swept-formed : Formed (campaignOf p) w (take n x)
     swept-formed = held-formed (campaignOf p) w (built restricted (campaignOf p) w) start (take n x) (bytes-front need restricted x is)
 
+    pub swept-half : {y : List ℤ} → y ≡ halfCells (campaignOf p) w (downNumbers (campaignOf p) (wide 8 w (built restricted (campaignOf p) w)))
+        → y ≡ halfCells (campaignOf p) w (downNumbers (campaignOf p) (arcsIn (campaignOf p) w (take n x)))
+    swept-half e = held-half (campaignOf p) w (built restricted (campaignOf p) w) start (take n x) (bytes-front need restricted x is) e
+
     pub swept-bytes : {y : List ℕ} → y ≡ laid 8 w (swept (campaignOf p) (arcsIn (campaignOf p) w (take n x))) → y ≡ laid 8 w (restrictedArcs (campaignOf p) w)
     swept-bytes e = held-drops (campaignOf p) w (built restricted (campaignOf p) w) start (take n x) (bytes-front need restricted x is) onPath e
 
@@ -133,25 +138,42 @@ module _ {p : Problem} {w : ℕ} {arcs : List ℕ} {cells : List ℤ} (o : Open 
       present = λ e. f (sym (getD-take k (v ++ u) 0 (pos 0) (omega (arith, some-cells))) ∙ e);
     }
 
-  pub cells-front : {n : ℕ} → n ≡ cellsNeed (campaignOf p) w → (rest : List ℤ) → n ≡ length (take n (take n cells ++ rest))
-  cells-front {n} need rest =
-      let long : length (take n cells) ≡ n = length-take-le n cells (omega (arith, o .room)) in
-      sym (ap length (take-at (take n cells) rest n long) ∙ long)
+  -- ---- the cells: the need's part is lent, and d is left there; then zeros behind it; then the numbers before them
+  module _ {n : ℕ} (need : n ≡ cellsNeed (campaignOf p) w) where
+    pub part-long : length (take n cells) ≡ n
+    part-long = length-take-le n cells (omega (arith, o .room))
 
-  -- ---- the cells: zeros behind the need, the numbers before them
+    module _ (d : List ℤ) (own : length d ≡ length (take n cells)) where
+      abbrev half : List ℤ
+      half = d ++ drop n cells
+
+      long : length d ≡ n
+      long = own ∙ part-long
+
+      half-front : take n half ≡ d
+      half-front = take-at d (drop n cells) n long
+
+      pub cells-front : (rest : List ℤ) → take n (take n half ++ rest) ≡ d
+      cells-front rest = take-at (take n half) rest n (ap length half-front ∙ long) ∙ half-front
+
+      pub cells-need-long : (rest : List ℤ) → n ≡ length (take n (take n half ++ rest))
+      cells-need-long rest = sym (ap length (cells-front rest) ∙ long)
+
+      pub cells-done : (a : Arcs) → Shaped (campaignOf p) w a → (zs y : List ℤ) → zs ≡ replicate (length (take (length half - n) (drop n half))) (pos 0)
+          → y ≡ numberCells (campaignOf p) w (cellsNeed (campaignOf p) w) a
+          → y ++ drop n (take n half ++ (zs ++ drop (length half - n) (drop n half))) ≡ numberCells (campaignOf p) w (length cells) a
+      cells-done a h zs y zeros is =
+          let z = length half - n in
+          let r = drop n half in
+          let left : z ≡ length cells - n = omega (arith, length-append d (drop n cells), length-drop n cells, long, o .room) in
+          let gone : drop z r ≡ [] = drop-of-length-le r {i = z} (omega (arith, length-drop n half)) in
+          let count : length (take z r) ≡ z = length-take-le z r (omega (arith, length-drop n half)) in
+          let rest : drop n (take n half ++ (zs ++ drop z r)) ≡ replicate (length cells - cellsNeed (campaignOf p) w) (pos 0) =
+          drop-at (take n half) (zs ++ drop z r) n (ap length half-front ∙ long)
+          ∙ ap (λ (l : List ℤ). zs ++ l) gone ∙ append-nil zs ∙ zeros ∙ ap (λ (k : ℕ). replicate k (pos 0)) (count ∙ left ∙ ap (λ (m : ℕ). length cells - m) need) in
+          (λ i. is i ++ rest i) ∙ sym (cells-behind (campaignOf p) small w a h (length cells) (o .room))
+
   module _ (a : Arcs) (h : Shaped (campaignOf p) w a) where
-    pub cells-done : {n : ℕ} → n ≡ cellsNeed (campaignOf p) w → (zs y : List ℤ) → zs ≡ replicate (length (take (length cells - n) (drop n cells))) (pos 0)
-        → y ≡ numberCells (campaignOf p) w (cellsNeed (campaignOf p) w) a
-        → y ++ drop n (take n cells ++ (zs ++ drop (length cells - n) (drop n cells))) ≡ numberCells (campaignOf p) w (length cells) a
-    cells-done {n} need zs y zeros is =
-        let z = length cells in
-        let gone : drop (z - n) (drop n cells) ≡ [] = drop-of-length-le (drop n cells) {i = z - n} (omega (arith, length-drop n cells)) in
-        let count : length (take (z - n) (drop n cells)) ≡ z - n = length-take-le (z - n) (drop n cells) (omega (arith, length-drop n cells)) in
-        let rest : drop n (take n cells ++ (zs ++ drop (z - n) (drop n cells))) ≡ replicate (z - cellsNeed (campaignOf p) w) (pos 0) =
-        drop-at (take n cells) (zs ++ drop (z - n) (drop n cells)) n (length-take-le n cells (omega (arith, o .room)))
-        ∙ ap (λ (l : List ℤ). zs ++ l) gone ∙ append-nil zs ∙ zeros ∙ ap (λ (k : ℕ). replicate k (pos 0)) (count ∙ ap (λ (m : ℕ). z - m) need) in
-        (λ i. is i ++ rest i) ∙ sym (cells-behind (campaignOf p) small w a h z (o .room))
-
     bound-long : (x : List ℤ) → x ≡ numberCells (campaignOf p) w (length cells) a → length x ≡ length cells
     bound-long x is = ap length is ∙ length-padded (pos 0) (length cells) _
 

@@ -8,13 +8,13 @@ ghost use lib.IntN.{pos};
 ghost use Rattle.laws.specs.Z.{Within, eqZ};
 ghost use Rattle.meaning.specs.Problem.{version1};
 ghost use Rattle.meaning.specs.Diagram.{relaxed, built};
-ghost use Rattle.meaning.specs.Filter.{relaxedArcs, restrictedArcs};
+ghost use Rattle.meaning.specs.Filter.{downNumbers, relaxedArcs, restrictedArcs};
 ghost use Rattle.meaning.specs.Buffers.{cellsNeed, numberCells};
 ghost use Rattle.meaning.specs.Calls.{wrongWidth, wrongNumbers, relaxedOf, restrictedOf};
 ghost use Rattle.problem.specs.Held.{faultIn, campaignOf};
-ghost use Rattle.lent.specs.Wide.{laid};
+ghost use Rattle.lent.specs.Wide.{wide, laid};
 ghost use Rattle.lent.specs.Led.{led};
-ghost use Rattle.numbers.specs.Whole.{Ready};
+ghost use Rattle.numbers.specs.Whole.{Ready, halfCells};
 ghost use Rattle.diagram.specs.Answers.{boundedAs, lentOf};
 ghost use Rattle.diagram.specs.Leading.{Led, firstCell, Leads};
 use problem::Problem;
@@ -83,18 +83,20 @@ fn cells_need(n: usize, m: usize, w: usize) -> usize
 
 // The asked number of rounds and the closing sweep. Behind a round that drops nothing neither would change anything.
 fn filter(p: Problem, w: usize, rounds: u32, ceiling: i32, arcs: &mut [u8], cells: &mut [i32])
-    requires { ⌜ Ready p w × Within 2000000 ceiling × (now arcs ≡ laid 8 w (built relaxed (campaignOf p) w)) × (length (now cells) ≡ cellsNeed (campaignOf p) w) ⌝ }
+    requires { ⌜ Ready p w × Within 2000000 ceiling × (now arcs ≡ laid 8 w (built relaxed (campaignOf p) w)) × (now cells ≡ halfCells (campaignOf p) w (downNumbers (campaignOf p) (wide 8 w (built relaxed (campaignOf p) w)))) ⌝ }
     ensures arcs { λ r. ⌜ now (arcs .exit) ≡ laid 8 w (relaxedArcs (campaignOf p) w rounds ceiling) ⌝ }
     ensures cells { λ r. ⌜ now (cells .exit) ≡ numberCells (campaignOf p) w (cellsNeed (campaignOf p) w) (relaxedArcs (campaignOf p) w rounds ceiling) ⌝ }
 {
     let mut k: u32 = 0;
     while k < rounds {
-        if !numbers::round(p, w, ceiling, arcs, cells) {
+        let known = k == 0;
+        if !numbers::round(p, w, known, ceiling, arcs, cells) {
             return;
         }
         k += 1;
     }
-    numbers::sweep(p, w, arcs, cells);
+    let known = k == 0;
+    numbers::sweep(p, w, known, arcs, cells);
 }
 
 // The bound that stands in the cells: the sink's cost down, none if the source is absent.
@@ -145,7 +147,7 @@ pub fn relaxed(
     if nine != 0 {
         return refusal(nine);
     }
-    let exact = building::build(p, true, w, arcs);
+    let exact = building::build(p, true, w, arcs, &mut cells[..numbers]);
     rows::zero_cells(&mut cells[numbers..]);
     filter(
         p,
@@ -239,9 +241,9 @@ pub fn restricted(
     if nine != 0 {
         return refusal(nine);
     }
-    let exact = building::build(p, false, w, arcs);
+    let exact = building::build(p, false, w, arcs, &mut cells[..numbers]);
     rows::zero_cells(&mut cells[numbers..]);
-    numbers::sweep(p, w, &mut arcs[..bytes], &mut cells[..numbers]);
+    numbers::sweep(p, w, true, &mut arcs[..bytes], &mut cells[..numbers]);
     building::zero_bytes(plan);
     if cells[0] != 0 {
         lead(p, w, &arcs[..bytes], &cells[..numbers], plan);

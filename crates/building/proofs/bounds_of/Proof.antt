@@ -6,6 +6,7 @@ use borrow.Author.Needs.{needs}
 use Rattle.meaning.specs.Problem.{version1}
 use Rattle.problem.proofs.Faultless.{right}
 use Rattle.building.proofs.Bounds.{Bounded, bounded-more, bounded-end}
+use Rattle.rows.proofs.Cells.{turn-fits}
 use Rattle.building.proofs.bounds_of.Statement.{statement}
 use Rattle.building.proofs.bounds_of.Tie as tie
 
@@ -29,6 +30,11 @@ mul-ub c = search needs
 
 element-copy-out-ub : tie.Need-element-copy-out-ub Inv-loop μ-loop
 element-copy-out-ub c = omega (arith, c .before .before .loop .inv .right .head .rules)
+
+sub-t13 : tie.Need-sub-t13 Inv-loop μ-loop
+sub-t13 c =
+    let l = c .before .before .before .loop in
+    turn-fits (l .inv .right .rule (l .r) (c .before .before .loop-test .taken) .fields .low) tt
 
 mul-t9 : tie.Need-mul-t9 Inv-loop μ-loop
 mul-t9 c = search needs
@@ -59,6 +65,7 @@ bounds-of-spec =
     element-copy-out-lb
     mul-ub
     element-copy-out-ub
+    sub-t13
     mul-t9
     element-set-from-s
     add-r

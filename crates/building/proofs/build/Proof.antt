@@ -1,132 +1,191 @@
--- `build` meets its contract: a turn builds the layer of one slot.
-use mathlib.Core.Path.{_≡_, refl, sym, _∙_}
-use Prim.Native.Nat.{_-_}
+-- `build` meets its contract: a turn builds the layer of one slot, and brings its down numbers to the next.
+use mathlib.Core.Path.{_≡_, refl, sym, ap, _∙_}
+use Prim.Native.Nat.{_+_, _-_}
 use native.Mathlib.Omega.{arith}
 use borrow.Author.Needs.{needs}
+use lib.Dec.{eqb}
+use lib.ListN.{length, replicate}
+use lib.IntN.{pos}
 use denote.Ref.{now}
-use lib.ListN.{length}
-use Rattle.meaning.specs.Problem.{version1}
 use Rattle.problem.proofs.Arrays.{long}
-use Rattle.problem.proofs.Faultless.{right}
-use Rattle.state.specs.Pairs.{pairs}
-use Rattle.building.proofs.Problems.{Going, going-start, going-slot, going-low, going-room, going-taken, going-slot-row, going-layer, going-more, going-here, going-long, going-end, zeros-long}
+use Rattle.numbers.proofs.Passes.{few-rules, few-size, spare-start}
+use Rattle.state.specs.Pairs.{pairs, lessened}
+use Rattle.building.proofs.Problems.{Going, ready-of, going-start, going-here, going-cells, going-downs, going-slot, going-slot-row, going-taken, going-limit, row-long, going-room, going-layer, places-in, going-room-next, going-last, going-downs-last, going-long, going-next, going-more, going-same, going-end, zeros-long}
 use Rattle.building.proofs.build.Statement.{statement}
 use Rattle.building.proofs.build.Tie as tie
 
 abbrev Inv-loop : tie.InvT-loop
-Inv-loop relax w arcs₀ p n m bounds table here₀ nodes₀ exact₀ i₀ arcs here nodes exact i =
-    Going p relax w (length arcs₀) (pairs bounds) table arcs here nodes exact i
+Inv-loop relax w arcs₀ cells₀ p n m bytes size bounds table here₀ spare₀ row₀ nodes₀ exact₀ i₀ arcs cells here spare row nodes exact i =
+    Going p relax w (length arcs₀) (pairs bounds) table arcs cells here spare row nodes exact i
 
 abbrev μ-loop : tie.MeasureT-loop
-μ-loop relax w arcs₀ p n m bounds table here₀ nodes₀ exact₀ i₀ arcs here nodes exact i = n - i
+μ-loop relax w arcs₀ cells₀ p n m bytes size bounds table here₀ spare₀ row₀ nodes₀ exact₀ i₀ arcs cells here spare row nodes exact i = p .n - i
+
+mul-bytes : tie.Need-mul-bytes Inv-loop μ-loop
+mul-bytes c = omega (arith, c .before .pre .2)
+
+mul-size : tie.Need-mul-size Inv-loop μ-loop
+mul-size c = omega (arith, few-rules {p = c .before .args .t1} {w = c .before .args .w} (ready-of (c .before .pre .0) (c .before .pre .1) (c .before .pre .2)))
+
+add-size : tie.Need-add-size Inv-loop μ-loop
+add-size c = omega (arith, few-rules {p = c .before .args .t1} {w = c .before .args .w} (ready-of (c .before .pre .0) (c .before .pre .1) (c .before .pre .2)))
+
+mul-size-2 : tie.Need-mul-size-2 Inv-loop μ-loop
+mul-size-2 c = omega (arith, few-size {p = c .before .args .t1} {w = c .before .args .w} (ready-of (c .before .pre .0) (c .before .pre .1) (c .before .pre .2)))
 
 bounds-of-requires : tie.Need-bounds-of-requires Inv-loop μ-loop
 bounds-of-requires c κs = c .before .pre .0
 
+slice-aggregate-reaches : tie.Need-slice-aggregate-reaches Inv-loop μ-loop
+slice-aggregate-reaches c = refl
+
 reaches-requires : tie.Need-reaches-requires Inv-loop μ-loop
-reaches-requires c κs = c .before .before .pre .0
+reaches-requires c κs = (c .before .before .before .pre .0, refl)
 
 zero-bytes-requires : tie.Need-zero-bytes-requires Inv-loop μ-loop
 zero-bytes-requires c κs = tt
 
+one-node-requires : tie.Need-one-node-requires Inv-loop μ-loop
+one-node-requires c κs = tt
+
 loop-holds : tie.Need-loop-holds Inv-loop μ-loop
 loop-holds c =
-    let x = c .before .before .before .before .before .before .before in
+    let x = c .before .before .before .before .before .before .before .before .before .before in
     let p = x .args .t1 in
-    let bounds = c .before .before .before .before .before .bounds-of in
-    let table = c .before .before .before .before .reaches in
-    let zeros = c .before .before .zero-bytes in
     let sets : length (p .sets) ≡ 24 = search long in
-    going-start p (x .args .relax) (x .args .w) (pairs (bounds .result)) (table .result) (now (x .args .arcs)) (zeros .last .0)
-    (right version1 p (x .pre .0)) sets (x .pre .1) (x .pre .2) (x .pre .3) (bounds .ensures) (table .ensures) (zeros .ensures)
+    going-start p (x .args .relax) (x .args .w) (pairs (c .before .before .before .before .before .before .before .before .bounds-of .result)) (c .before .before .before .before .before .before .reaches .last .1 .0) (now (x .args .arcs)) (c .before .before .before .zero-bytes .last .0) (now (x .args .cells)) (c .one-node .result) (replicate 272 (pos 4000000)) (replicate 136 (pos 0))
+    (ready-of (x .pre .0) (x .pre .1) (x .pre .2)) sets (x .pre .3) (c .before .before .before .before .before .before .before .before .bounds-of .ensures) (c .before .before .before .before .before .before .reaches .ensures) (c .before .before .before .zero-bytes .ensures) (x .pre .4) (c .one-node .ensures) spare-start refl
+
+slice-aggregate-put-downs : tie.Need-slice-aggregate-put-downs Inv-loop μ-loop
+slice-aggregate-put-downs c = sym (going-here (c .before .before .loop .inv) .long)
+
+mul-put-downs : tie.Need-mul-put-downs Inv-loop μ-loop
+mul-put-downs c = omega (arith, going-cells (c .before .before .loop .inv))
+
+mul-put-downs-2 : tie.Need-mul-put-downs-2 Inv-loop μ-loop
+mul-put-downs-2 c = omega (arith, going-cells (c .before .before .loop .inv))
+
+add-put-downs : tie.Need-add-put-downs Inv-loop μ-loop
+add-put-downs c = omega (arith, going-cells (c .before .before .loop .inv))
+
+mul-put-downs-3 : tie.Need-mul-put-downs-3 Inv-loop μ-loop
+mul-put-downs-3 c = omega (arith, going-cells (c .before .before .loop .inv))
+
+sub-put-downs : tie.Need-sub-put-downs Inv-loop μ-loop
+sub-put-downs c = search needs
+
+part-put-downs-start : tie.Need-part-put-downs-start Inv-loop μ-loop
+part-put-downs-start c = search needs
+
+part-put-downs-end : tie.Need-part-put-downs-end Inv-loop μ-loop
+part-put-downs-end c = omega (arith, going-cells (c .before .before .loop .inv))
+
+put-downs-requires : tie.Need-put-downs-requires Inv-loop μ-loop
+put-downs-requires c κs = going-downs (c .before .before .before .loop .inv)
 
 mul-set : tie.Need-mul-set Inv-loop μ-loop
-mul-set c = omega (arith, going-slot (c .before .loop .inv) (c .loop-test .taken))
+mul-set c = omega (arith, going-slot (c .before .before .before .before .before .loop .inv) (c .before .before .before .before .loop-test .taken))
 
 element-copy-out-set : tie.Need-element-copy-out-set Inv-loop μ-loop
-element-copy-out-set c = going-slot (c .before .loop .inv) (c .loop-test .taken)
+element-copy-out-set c = going-slot (c .before .before .before .before .before .loop .inv) (c .before .before .before .before .loop-test .taken)
 
 mul-weight : tie.Need-mul-weight Inv-loop μ-loop
-mul-weight c = omega (arith, going-slot (c .before .before .loop .inv) (c .before .loop-test .taken))
+mul-weight c = omega (arith, going-slot (c .before .before .before .before .before .before .loop .inv) (c .before .before .before .before .before .loop-test .taken))
 
 element-copy-out-weight : tie.Need-element-copy-out-weight Inv-loop μ-loop
-element-copy-out-weight c = going-slot (c .before .before .loop .inv) (c .before .loop-test .taken)
+element-copy-out-weight c = going-slot (c .before .before .before .before .before .before .loop .inv) (c .before .before .before .before .before .loop-test .taken)
+
+slice-aggregate-slot-row : tie.Need-slice-aggregate-slot-row Inv-loop μ-loop
+slice-aggregate-slot-row c = sym (c .before .before .before .before .before .before .before .before .before .before .before .before .before .loop .inv .slot)
 
 slot-row-requires : tie.Need-slot-row-requires Inv-loop μ-loop
-slot-row-requires c κs =
-    let x = c .before .before .before .before .before .before .before in
-    going-slot-row (x .before .loop .inv) (x .loop-test .taken)
+slot-row-requires c κs = going-slot-row (c .before .before .before .before .before .before .before .before .before .before .before .before .before .loop .inv) (c .before .before .before .before .before .before .before .before .before .before .before .before .loop-test .taken)
 
 slice-aggregate-taken : tie.Need-slice-aggregate-taken Inv-loop μ-loop
-slice-aggregate-taken c = search needs
+slice-aggregate-taken c = sym (c .before .before .before .before .before .before .before .before .before .before .before .before .before .before .before .before .loop .inv .reached .long)
 
 add-taken : tie.Need-add-taken Inv-loop μ-loop
-add-taken c =
-    let x = c .before .before .before .before .before .before .before .before .before in
-    omega (arith, going-slot (x .before .loop .inv) (x .loop-test .taken))
+add-taken c = omega (arith, going-slot (c .before .before .before .before .before .before .before .before .before .before .before .before .before .before .before .before .loop .inv) (c .before .before .before .before .before .before .before .before .before .before .before .before .before .before .before .loop-test .taken))
 
 mul-taken : tie.Need-mul-taken Inv-loop μ-loop
-mul-taken c =
-    let x = c .before .before .before .before .before .before .before .before .before in
-    omega (arith, going-slot (x .before .loop .inv) (x .loop-test .taken))
+mul-taken c = omega (arith, going-slot (c .before .before .before .before .before .before .before .before .before .before .before .before .before .before .before .before .loop .inv) (c .before .before .before .before .before .before .before .before .before .before .before .before .before .before .before .loop-test .taken))
 
 taken-requires : tie.Need-taken-requires Inv-loop μ-loop
-taken-requires c κs =
-    let x = c .before .before .before .before .before .before .before .before .before in
-    going-taken (x .before .loop .inv) (x .loop-test .taken)
+taken-requires c κs = going-taken (c .before .before .before .before .before .before .before .before .before .before .before .before .before .before .before .before .loop .inv) (c .before .before .before .before .before .before .before .before .before .before .before .before .before .before .before .loop-test .taken)
+
+less-requires : tie.Need-less-requires Inv-loop μ-loop
+less-requires c κs =
+    let a = going-limit (c .before .before .before .before .before .before .before .before .before .before .before .before .before .before .before .before .before .loop .inv) (c .before .before .before .before .before .before .before .before .before .before .before .before .before .before .before .before .loop-test .taken) in
+    (a .0, rw (c .taken .ensures) (a .1))
 
 add-last : tie.Need-add-last Inv-loop μ-loop
-add-last c =
-    let x = c .before .before .before .before .before .before .before .before .before .before in
-    omega (arith, going-slot (x .before .loop .inv) (x .loop-test .taken))
+add-last c = omega (arith, going-slot (c .before .before .before .before .before .before .before .before .before .before .before .before .before .before .before .before .before .before .loop .inv) (c .before .before .before .before .before .before .before .before .before .before .before .before .before .before .before .before .before .loop-test .taken))
 
-mul-at : tie.Need-mul-at Inv-loop μ-loop
-mul-at c =
-    let x = c .before .before .before .before .before .before .before .before .before .before in
-    omega (arith, going-low (x .before .loop .inv) (x .loop-test .taken))
+shares-requires : tie.Need-shares-requires Inv-loop μ-loop
+shares-requires c κs = tt
 
-mul-at-2 : tie.Need-mul-at-2 Inv-loop μ-loop
-mul-at-2 c =
-    let x = c .before .before .before .before .before .before .before .before .before .before in
-    omega (arith, going-low (x .before .loop .inv) (x .loop-test .taken))
+places-requires : tie.Need-places-requires Inv-loop μ-loop
+places-requires c κs = tt
 
 slice-aggregate-build-layer : tie.Need-slice-aggregate-build-layer Inv-loop μ-loop
-slice-aggregate-build-layer c = sym (going-here (c .before .before .before .before .before .before .before .before .before .before .before .before .loop .inv))
+slice-aggregate-build-layer c = sym (going-here (c .before .before .before .before .before .before .before .before .before .before .before .before .before .before .before .before .before .before .before .before .before .loop .inv) .long)
 
 slice-aggregate-build-layer-2 : tie.Need-slice-aggregate-build-layer-2 Inv-loop μ-loop
-slice-aggregate-build-layer-2 c = search needs
+slice-aggregate-build-layer-2 c = sym (row-long (c .before .before .before .before .before .before .before .before .before .before .before .before .before .before .before .before .before .before .before .before .before .before .loop .inv) (c .before .before .before .before .before .before .before .before .before .before .before .before .before .before .before .before .before .before .before .before .before .loop-test .taken) (c .before .before .before .before .before .before .before .before .slot-row .ensures))
 
 mul-build-layer : tie.Need-mul-build-layer Inv-loop μ-loop
-mul-build-layer c =
-    let x = c .before .before .before .before .before .before .before .before .before .before .before .before in
-    omega (arith, going-low (x .before .loop .inv) (x .loop-test .taken))
+mul-build-layer c = omega (arith, going-room (c .before .before .before .before .before .before .before .before .before .before .before .before .before .before .before .before .before .before .before .before .before .before .loop .inv) (c .before .before .before .before .before .before .before .before .before .before .before .before .before .before .before .before .before .before .before .before .before .loop-test .taken))
+
+mul-build-layer-2 : tie.Need-mul-build-layer-2 Inv-loop μ-loop
+mul-build-layer-2 c = omega (arith, going-room (c .before .before .before .before .before .before .before .before .before .before .before .before .before .before .before .before .before .before .before .before .before .before .loop .inv) (c .before .before .before .before .before .before .before .before .before .before .before .before .before .before .before .before .before .before .before .before .before .loop-test .taken))
 
 add-build-layer : tie.Need-add-build-layer Inv-loop μ-loop
-add-build-layer c =
-    let x = c .before .before .before .before .before .before .before .before .before .before .before .before in
-    omega (arith, going-low (x .before .loop .inv) (x .loop-test .taken))
+add-build-layer c = omega (arith, going-room (c .before .before .before .before .before .before .before .before .before .before .before .before .before .before .before .before .before .before .before .before .before .before .loop .inv) (c .before .before .before .before .before .before .before .before .before .before .before .before .before .before .before .before .before .before .before .before .before .loop-test .taken))
 
 sub-build-layer : tie.Need-sub-build-layer Inv-loop μ-loop
-sub-build-layer c = omega arith
+sub-build-layer c = search needs
 
 part-build-layer-start : tie.Need-part-build-layer-start Inv-loop μ-loop
-part-build-layer-start c = omega arith
+part-build-layer-start c = search needs
 
 part-build-layer-end : tie.Need-part-build-layer-end Inv-loop μ-loop
-part-build-layer-end c =
-    let x = c .before .before .before .before .before .before .before .before .before .before .before .before in
-    going-room (x .before .loop .inv) (x .loop-test .taken)
-
-slice-aggregate-build-layer-3 : tie.Need-slice-aggregate-build-layer-3 Inv-loop μ-loop
-slice-aggregate-build-layer-3 c = search needs
+part-build-layer-end c = omega (arith, going-room (c .before .before .before .before .before .before .before .before .before .before .before .before .before .before .before .before .before .before .before .before .before .before .loop .inv) (c .before .before .before .before .before .before .before .before .before .before .before .before .before .before .before .before .before .before .before .before .before .loop-test .taken))
 
 build-layer-requires : tie.Need-build-layer-requires Inv-loop μ-loop
 build-layer-requires c κs =
-    let x = c .before .before .before .before .before .before .before .before .before .before .before .before .before .before in
-    let row = c .before .before .before .before .before .before .slot-row in
-    let ahead = c .before .before .before .before .taken in
-    let a = going-layer (x .before .loop .inv) (x .loop-test .taken) (row .ensures) (ahead .ensures) in
-    (a .0, a .1, a .2, a .3, a .4, a .5, refl)
+    let a = going-layer (c .before .before .before .before .before .before .before .before .before .before .before .before .before .before .before .before .before .before .before .before .before .before .before .loop .inv) (c .before .before .before .before .before .before .before .before .before .before .before .before .before .before .before .before .before .before .before .before .before .before .loop-test .taken) (c .before .before .before .before .before .before .before .before .before .slot-row .ensures) in
+    let p = places-in (c .before .before .before .before .before .before .before .before .before .before .before .before .before .before .before .before .before .before .before .before .before .before .before .loop .inv) (eqb (c .before .before .before .before .before .before .before .before .before .before .before .before .before .before .before .before .before .before .before .before .before .before .before .loop .i + 1) (c .before .before .before .before .before .before .before .before .before .before .before .before .before .before .before .before .before .before .before .before .before .before .before .before .before .before .before .before .before .before .before .before .before .before .args .t1 .n)) (c .before .before .before .places .ensures) in
+    (a .0, a .1, p .0, p .1, a .2)
+
+slice-aggregate-next-down : tie.Need-slice-aggregate-next-down Inv-loop μ-loop
+slice-aggregate-next-down c = sym (row-long (c .before .before .before .before .before .before .before .before .before .before .before .before .before .before .before .before .before .before .before .before .before .before .before .before .before .before .before .loop .inv) (c .before .before .before .before .before .before .before .before .before .before .before .before .before .before .before .before .before .before .before .before .before .before .before .before .before .before .loop-test .taken) (c .before .before .before .before .before .before .before .before .before .before .before .before .before .slot-row .ensures))
+
+slice-aggregate-next-down-2 : tie.Need-slice-aggregate-next-down-2 Inv-loop μ-loop
+slice-aggregate-next-down-2 c = sym (going-here (c .before .before .before .before .before .before .before .before .before .before .before .before .before .before .before .before .before .before .before .before .before .before .before .before .before .before .before .before .loop .inv) .long)
+
+mul-next-down : tie.Need-mul-next-down Inv-loop μ-loop
+mul-next-down c = omega (arith, going-room (c .before .before .before .before .before .before .before .before .before .before .before .before .before .before .before .before .before .before .before .before .before .before .before .before .before .before .before .before .loop .inv) (c .before .before .before .before .before .before .before .before .before .before .before .before .before .before .before .before .before .before .before .before .before .before .before .before .before .before .before .loop-test .taken))
+
+mul-next-down-2 : tie.Need-mul-next-down-2 Inv-loop μ-loop
+mul-next-down-2 c = omega (arith, going-room (c .before .before .before .before .before .before .before .before .before .before .before .before .before .before .before .before .before .before .before .before .before .before .before .before .before .before .before .before .loop .inv) (c .before .before .before .before .before .before .before .before .before .before .before .before .before .before .before .before .before .before .before .before .before .before .before .before .before .before .before .loop-test .taken))
+
+add-next-down : tie.Need-add-next-down Inv-loop μ-loop
+add-next-down c = omega (arith, going-room (c .before .before .before .before .before .before .before .before .before .before .before .before .before .before .before .before .before .before .before .before .before .before .before .before .before .before .before .before .loop .inv) (c .before .before .before .before .before .before .before .before .before .before .before .before .before .before .before .before .before .before .before .before .before .before .before .before .before .before .before .loop-test .taken))
+
+sub-next-down : tie.Need-sub-next-down Inv-loop μ-loop
+sub-next-down c = search needs
+
+part-next-down-start : tie.Need-part-next-down-start Inv-loop μ-loop
+part-next-down-start c = search needs
+
+part-next-down-end : tie.Need-part-next-down-end Inv-loop μ-loop
+part-next-down-end c = going-room-next (c .before .before .before .before .before .before .before .before .before .before .before .before .before .before .before .before .before .before .before .before .before .before .before .before .before .before .before .before .before .loop .inv) (c .before .before .before .before .before .before .before .before .before .before .before .before .before .before .before .before .before .before .before .before .before .before .before .before .before .before .before .before .loop-test .taken) (c .before .before .before .before .before .before .before .before .before .before .before .before .before .before .before .slot-row .ensures) (c .before .before .before .before .before .before .before .before .before .before .before .less .ensures ∙ ap (lessened (pairs (c .before .before .before .before .before .before .before .before .before .before .before .before .before .before .before .before .before .before .before .before .before .before .before .before .before .before .before .before .before .before .before .before .before .before .before .before .before .before .bounds-of .result))) (c .before .before .before .before .before .before .before .before .before .before .before .before .taken .ensures)) (c .before .before .before .before .before .before .before .before .before .before .shares .ensures) (c .before .before .before .before .before .before .before .before .before .places .ensures) (c .before .before .before .before .before .build-layer .ensures)
+
+slice-aggregate-next-down-3 : tie.Need-slice-aggregate-next-down-3 Inv-loop μ-loop
+slice-aggregate-next-down-3 c = sym (c .before .before .before .before .before .before .before .before .before .before .before .before .before .before .before .before .before .before .before .before .before .before .before .before .before .before .before .before .before .before .before .loop .inv .room .long)
+
+next-down-requires : tie.Need-next-down-requires Inv-loop μ-loop
+next-down-requires c κs = going-next (c .before .before .before .before .before .before .before .before .before .before .before .before .before .before .before .before .before .before .before .before .before .before .before .before .before .before .before .before .before .before .before .loop .inv) (c .before .before .before .before .before .before .before .before .before .before .before .before .before .before .before .before .before .before .before .before .before .before .before .before .before .before .before .before .before .before .loop-test .taken) (c .before .before .before .before .before .before .before .before .before .before .before .before .before .before .before .before .before .slot-row .ensures) (c .before .before .before .before .before .before .before .before .before .before .before .before .before .less .ensures ∙ ap (lessened (pairs (c .before .before .before .before .before .before .before .before .before .before .before .before .before .before .before .before .before .before .before .before .before .before .before .before .before .before .before .before .before .before .before .before .before .before .before .before .before .before .before .before .bounds-of .result))) (c .before .before .before .before .before .before .before .before .before .before .before .before .before .before .taken .ensures)) (c .before .before .before .before .before .before .before .before .before .before .before .before .shares .ensures) (c .before .before .before .before .before .before .before .before .before .before .before .places .ensures) (c .before .before .before .before .before .before .before .build-layer .ensures)
 
 least-requires : tie.Need-least-requires Inv-loop μ-loop
 least-requires c κs = tt
@@ -135,29 +194,54 @@ still-requires : tie.Need-still-requires Inv-loop μ-loop
 still-requires c κs = tt
 
 add-i : tie.Need-add-i Inv-loop μ-loop
-add-i c =
-    let x = c .before .before .before .before .before .before .before .before .before .before .before .before .before .before .before .before .before .before .before .before in
-    omega (arith, going-slot (x .before .loop .inv) (x .loop-test .taken))
+add-i c = omega (arith, going-slot (c .before .before .before .before .before .before .before .before .before .before .before .before .before .before .before .before .before .before .before .before .before .before .before .before .before .before .before .before .before .before .before .before .before .before .before .before .loop .inv) (c .before .before .before .before .before .before .before .before .before .before .before .before .before .before .before .before .before .before .before .before .before .before .before .before .before .before .before .before .before .before .before .before .before .before .before .loop-test .taken))
 
 loop-less : tie.Need-loop-less Inv-loop μ-loop
-loop-less c = search needs
+loop-less c = omega (arith, c .before .before .before .before .before .before .before .before .before .before .before .before .before .before .before .before .before .before .before .before .before .before .before .before .before .before .before .before .before .before .before .before .before .before .before .loop-test .taken)
 
 loop-again : tie.Need-loop-again Inv-loop μ-loop
 loop-again c =
-    let x = c .before .before .before .before .before .before .before .before .before .before .before .before .before .before .before .before .before .before .before .before in
-    let row = c .before .before .before .before .before .before .before .before .before .before .before .before .slot-row in
-    let ahead = c .before .before .before .before .before .before .before .before .before .before .taken in
-    let layer = c .before .before .before .before .before .build-layer in
-    let nodes = c .before .least in
-    going-more (x .before .loop .inv) (x .loop-test .taken) (row .ensures) (ahead .ensures) _ _ _ _ (layer .result) (nodes .result) (c .still .result) refl (layer .ensures) refl (nodes .ensures) (c .still .ensures)
+    going-more (c .before .before .before .before .before .before .before .before .before .before .before .before .before .before .before .before .before .before .before .before .before .before .before .before .before .before .before .before .before .before .before .before .before .before .before .before .loop .inv) (c .before .before .before .before .before .before .before .before .before .before .before .before .before .before .before .before .before .before .before .before .before .before .before .before .before .before .before .before .before .before .before .before .before .before .before .loop-test .taken) (c .before .before .before .before .before .before .before .before .before .before .before .before .before .before .before .before .before .before .before .before .before .before .slot-row .ensures) (c .before .before .before .before .before .before .before .before .before .before .before .before .before .before .before .before .before .before .less .ensures ∙ ap (lessened (pairs (c .before .before .before .before .before .before .before .before .before .before .before .before .before .before .before .before .before .before .before .before .before .before .before .before .before .before .before .before .before .before .before .before .before .before .before .before .before .before .before .before .before .before .before .before .before .bounds-of .result))) (c .before .before .before .before .before .before .before .before .before .before .before .before .before .before .before .before .before .before .before .taken .ensures)) (c .before .before .before .before .before .before .before .before .before .before .before .before .before .before .before .before .before .shares .ensures) (c .before .before .before .before .before .before .before .before .before .before .before .before .before .before .before .before .places .ensures) (c .before .before .before .before .before .before .before .before .before .before .before .before .build-layer .ensures) (c .before .least .result) (c .still .result)
+    (c .before .before .before .before .before .before .before .before .before .before .before .before .before .before .before .before .before .before .before .before .before .before .before .before .before .before .before .before .before .before .before .before .put-downs .ensures) refl (c .before .before .before .before .next-down .ensures .0) (c .before .before .before .before .next-down .ensures .1) (c .before .least .ensures) (c .still .ensures)
+
+slice-aggregate-put-downs-2 : tie.Need-slice-aggregate-put-downs-2 Inv-loop μ-loop
+slice-aggregate-put-downs-2 c = sym (going-here (c .before .before .loop .inv) .long)
+
+mul-put-downs-4 : tie.Need-mul-put-downs-4 Inv-loop μ-loop
+mul-put-downs-4 c = omega (arith, going-last (c .before .before .loop .inv))
+
+mul-put-downs-5 : tie.Need-mul-put-downs-5 Inv-loop μ-loop
+mul-put-downs-5 c = omega (arith, going-last (c .before .before .loop .inv))
+
+add-put-downs-2 : tie.Need-add-put-downs-2 Inv-loop μ-loop
+add-put-downs-2 c = omega (arith, going-last (c .before .before .loop .inv))
+
+mul-put-downs-6 : tie.Need-mul-put-downs-6 Inv-loop μ-loop
+mul-put-downs-6 c = omega (arith, going-last (c .before .before .loop .inv))
+
+sub-put-downs-2 : tie.Need-sub-put-downs-2 Inv-loop μ-loop
+sub-put-downs-2 c = search needs
+
+part-put-downs-start-2 : tie.Need-part-put-downs-start-2 Inv-loop μ-loop
+part-put-downs-start-2 c = search needs
+
+part-put-downs-end-2 : tie.Need-part-put-downs-end-2 Inv-loop μ-loop
+part-put-downs-end-2 c = omega (arith, going-last (c .before .before .loop .inv))
+
+put-downs-requires-2 : tie.Need-put-downs-requires-2 Inv-loop μ-loop
+put-downs-requires-2 c κs = going-downs-last (c .before .before .before .loop .inv) (c .before .before .loop-test .left)
 
 same-length : tie.Need-same-length Inv-loop μ-loop
-same-length c = going-long (c .before .loop .inv) ∙ zeros-long (length (now (c .before .before .before .before .before .before .before .before .before .args .arcs))) (c .before .before .before .before .zero-bytes .ensures)
+same-length c = going-long (c .before .before .before .before .before .loop .inv) ∙ zeros-long (length (now (c .before .before .before .before .before .before .before .before .before .before .before .before .before .before .before .before .args .arcs))) (c .before .before .before .before .before .before .before .before .before .zero-bytes .ensures)
+
+same-length-2 : tie.Need-same-length-2 Inv-loop μ-loop
+same-length-2 c = going-same (c .before .before .before .before .before .loop .inv) (c .before .before .before .before .before .before .before .before .before .before .before .before .before .before .before .before .pre .4) (c .before .put-downs2 .ensures)
 
 returns : tie.Need-returns Inv-loop μ-loop
 returns c =
-    let n = length (now (c .before .before .before .before .before .before .before .before .before .args .arcs)) in
-    going-end (c .before .loop .inv) n (zeros-long n (c .before .before .before .before .zero-bytes .ensures)) (c .loop-test .left)
+    let n = length (now (c .before .before .before .before .before .before .before .before .before .before .before .before .before .before .before .before .args .arcs)) in
+    let e = going-end (c .before .before .before .before .before .loop .inv) n (zeros-long n (c .before .before .before .before .before .before .before .before .before .zero-bytes .ensures)) (c .before .before .before .before .loop-test .left) (c .before .put-downs2 .ensures) in
+    (e .0, (e .1, e .2))
 
 pub build-spec : {M : Type 1} → statement M
 build-spec =
@@ -165,35 +249,72 @@ build-spec =
     (tie.spec
     Inv-loop
     μ-loop
+    mul-bytes
+    mul-size
+    add-size
+    mul-size-2
     bounds-of-requires
+    slice-aggregate-reaches
     reaches-requires
     zero-bytes-requires
+    one-node-requires
     loop-holds
+    slice-aggregate-put-downs
+    mul-put-downs
+    mul-put-downs-2
+    add-put-downs
+    mul-put-downs-3
+    sub-put-downs
+    part-put-downs-start
+    part-put-downs-end
+    put-downs-requires
     mul-set
     element-copy-out-set
     mul-weight
     element-copy-out-weight
+    slice-aggregate-slot-row
     slot-row-requires
     slice-aggregate-taken
     add-taken
     mul-taken
     taken-requires
+    less-requires
     add-last
-    mul-at
-    mul-at-2
+    shares-requires
+    places-requires
     slice-aggregate-build-layer
     slice-aggregate-build-layer-2
     mul-build-layer
+    mul-build-layer-2
     add-build-layer
     sub-build-layer
     part-build-layer-start
     part-build-layer-end
-    slice-aggregate-build-layer-3
     build-layer-requires
+    slice-aggregate-next-down
+    slice-aggregate-next-down-2
+    mul-next-down
+    mul-next-down-2
+    add-next-down
+    sub-next-down
+    part-next-down-start
+    part-next-down-end
+    slice-aggregate-next-down-3
+    next-down-requires
     least-requires
     still-requires
     add-i
     loop-less
     loop-again
+    slice-aggregate-put-downs-2
+    mul-put-downs-4
+    mul-put-downs-5
+    add-put-downs-2
+    mul-put-downs-6
+    sub-put-downs-2
+    part-put-downs-start-2
+    part-put-downs-end-2
+    put-downs-requires-2
     same-length
+    same-length-2
     returns)

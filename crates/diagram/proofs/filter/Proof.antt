@@ -1,9 +1,9 @@
--- `filter` meets its contract: behind k rounds the bytes are those of k rounds, and a round that drops nothing is the last.
+-- `filter` meets its contract: behind k rounds the bytes are those of k rounds, before the first the cells hold their down numbers, and a round that drops nothing is the last.
 use mathlib.Core.Path.{_≡_, refl, sym, ap, _∙_}
 use Prim.Native.Nat.{_-_, _≤_, _<_}
 use native.Mathlib.Omega.{arith}
 use borrow.Author.Needs.{needs}
-use borrow.Author.Tests.{not-true}
+use borrow.Author.Tests.{eqb-true, not-true}
 use lib.ListN.{length}
 use lib.IntN.{ℤ}
 use mir.Syntax.{w32}
@@ -11,24 +11,42 @@ use mir.Val.{toZ}
 use mir.Facts.{toZ-ofZ}
 use Rattle.laws.specs.Z.{back, back-within}
 use Rattle.meaning.specs.Diagram.{relaxed, built}
-use Rattle.meaning.specs.Filter.{onPath, rounds, relaxedArcs}
-use Rattle.meaning.specs.Buffers.{cellsNeed, numberCells}
+use Rattle.meaning.specs.Filter.{downNumbers, onPath, rounds, relaxedArcs}
+use Rattle.meaning.specs.Buffers.{arcsIn, cellsNeed, numberCells}
 use Rattle.problem.specs.Held.{campaignOf}
+use Rattle.problem.proofs.Arrays.{long}
 use Rattle.lent.specs.Wide.{laid}
-use Rattle.diagram.proofs.Rounds.{held-formed, held-drops, held-swept, behind-shaped, round-next, stops-bytes, stops-cells}
+use Rattle.lent.proofs.Shape.{built-shaped}
+use Rattle.numbers.specs.Whole.{halfCells}
+use Rattle.numbers.proofs.Held.{held-formed}
+use Rattle.diagram.proofs.Rounds.{held-half, held-drops, held-swept, half-need, behind-shaped, round-next, stops-bytes, stops-cells}
 use Rattle.diagram.proofs.filter.Statement.{statement}
 use Rattle.diagram.proofs.filter.Tie as tie
 
 abbrev Inv-loop : tie.InvT-loop
 Inv-loop p w n ceiling arcs₀ cells₀ k₀ arcs cells k =
     let q = campaignOf p in
-    (k ≤ n) × (length arcs ≡ length arcs₀) × (length cells ≡ length cells₀) × (arcs ≡ laid 8 w (rounds (toZ w32 ceiling) q k (built relaxed q w)))
+    (k ≤ n) × (length arcs ≡ length arcs₀) × (length cells ≡ length cells₀) × (arcs ≡ laid 8 w (rounds (toZ w32 ceiling) q k (built relaxed q w))) × (k ≡ 0 → cells ≡ halfCells q w (downNumbers q (arcsIn q w arcs)))
 
 abbrev μ-loop : tie.MeasureT-loop
 μ-loop p w n ceiling arcs₀ cells₀ k₀ arcs cells k = n - k
 
+-- at the start: the cells hold the down numbers of the bytes, and are of the need's length
+half : (s : tie.Start Inv-loop μ-loop) → s .args .cells .now ≡ halfCells (campaignOf (s .args .p)) (s .args .w) (downNumbers (campaignOf (s .args .p)) (arcsIn (campaignOf (s .args .p)) (s .args .w) (s .args .arcs .now)))
+half s =
+    let q = campaignOf (s .args .p) in
+    let w = s .args .w in
+    held-half q w (built relaxed q w) (built-shaped relaxed q w (s .pre .0 .some)) (s .args .arcs .now) (s .pre .2) (s .pre .3)
+
+room : (s : tie.Start Inv-loop μ-loop) → length (s .args .cells .now) ≡ cellsNeed (campaignOf (s .args .p)) (s .args .w)
+room s =
+    let q = campaignOf (s .args .p) in
+    let w = s .args .w in
+    let sets : length (s .args .p .sets) ≡ 24 = search long in
+    half-need (s .pre .0) sets (held-formed q w (built relaxed q w) (built-shaped relaxed q w (s .pre .0 .some)) (s .args .arcs .now) (s .pre .2)) (half s)
+
 loop-holds : tie.Need-loop-holds Inv-loop μ-loop
-loop-holds c = (omega arith, refl, refl, c .before .pre .2)
+loop-holds c = (omega arith, refl, refl, c .before .pre .2, λ z. half (c .before))
 
 round-requires : tie.Need-round-requires Inv-loop μ-loop
 round-requires c κs =
@@ -37,13 +55,13 @@ round-requires c κs =
     let q = campaignOf (s .args .p) in
     let z = back (s .args .ceiling) in
     let some = s .pre .0 .some in
-    (s .pre .0, back-within (s .pre .1) tt, held-formed q (s .args .w) _ (behind-shaped z q (s .args .w) some (l .k)) (l .arcs) (l .inv .3), l .inv .2 ∙ s .pre .3)
+    (s .pre .0, back-within (s .pre .1) tt, held-formed q (s .args .w) _ (behind-shaped z q (s .args .w) some (l .k)) (l .arcs) (l .inv .3), l .inv .2 ∙ room s, λ t. l .inv .4 (eqb-true (l .k) 0 t))
 
 same-length : tie.Need-same-length Inv-loop μ-loop
-same-length c = c .before .before .before .before .round .kept .1 .1 .1 .0 ∙ c .before .before .before .before .before .before .before .before .loop .inv .1
+same-length c = c .before .before .before .before .round .kept .1 .1 .1 .1 .0 ∙ c .before .before .before .before .before .before .before .before .loop .inv .1
 
 same-length-2 : tie.Need-same-length-2 Inv-loop μ-loop
-same-length-2 c = c .before .before .before .before .round .kept .1 .1 .1 .1 .0 ∙ c .before .before .before .before .before .before .before .before .loop .inv .2
+same-length-2 c = c .before .before .before .before .round .kept .1 .1 .1 .1 .1 .0 ∙ c .before .before .before .before .before .before .before .before .loop .inv .2
 
 returns : tie.Need-returns Inv-loop μ-loop
 returns c =
@@ -58,7 +76,7 @@ returns c =
     let none = sym (not-true _ (c .if1 .taken)) ∙ r .ensures .1 .1 in
     let more : l .k < a .rounds = omega arith in (
       stops-bytes z q (a .w) (s .pre .0 .some) (l .k) (l .arcs) _ (l .inv .3) (r .ensures .0) (a .rounds) more none ∙ ap (λ (t : ℤ). laid 8 (a .w) (relaxedArcs q (a .w) (a .rounds) t)) is,
-      stops-cells z q (a .w) (s .pre .0 .some) (l .k) (l .arcs) _ (l .inv .3) (r .ensures .0) (a .rounds) more none _ (r .ensures .1 .0) need (r .kept .1 .1 .1 .1 .0 ∙ l .inv .2 ∙ s .pre .3) ∙ ap (λ (t : ℤ). numberCells q (a .w) need (relaxedArcs q (a .w) (a .rounds) t)) is,
+      stops-cells z q (a .w) (s .pre .0 .some) (l .k) (l .arcs) _ (l .inv .3) (r .ensures .0) (a .rounds) more none _ (r .ensures .1 .0) need (r .kept .1 .1 .1 .1 .1 .0 ∙ l .inv .2 ∙ room s) ∙ ap (λ (t : ℤ). numberCells q (a .w) need (relaxedArcs q (a .w) (a .rounds) t)) is,
     )
 
 add-k : tie.Need-add-k Inv-loop μ-loop
@@ -74,8 +92,13 @@ loop-again c =
     let r = c .before .before .before .before .round in
     let a = s .args in
     let q = campaignOf (a .p) in
-    let z = back (a .ceiling) in
-    (omega arith, r .kept .1 .1 .1 .0 ∙ l .inv .1, r .kept .1 .1 .1 .1 .0 ∙ l .inv .2, round-next z q (a .w) (s .pre .0 .some) (l .k) (l .arcs) _ (l .inv .3) (r .ensures .0))
+    let z = back (a .ceiling) in (
+      omega (arith, c .before .before .before .before .before .before .before .loop-test .taken),
+      r .kept .1 .1 .1 .1 .0 ∙ l .inv .1,
+      r .kept .1 .1 .1 .1 .1 .0 ∙ l .inv .2,
+      round-next z q (a .w) (s .pre .0 .some) (l .k) (l .arcs) _ (l .inv .3) (r .ensures .0),
+      λ t. absurd (omega arith),
+    )
 
 sweep-requires : tie.Need-sweep-requires Inv-loop μ-loop
 sweep-requires c κs =
@@ -84,13 +107,13 @@ sweep-requires c κs =
     let q = campaignOf (s .args .p) in
     let z = back (s .args .ceiling) in
     let some = s .pre .0 .some in
-    (s .pre .0, held-formed q (s .args .w) _ (behind-shaped z q (s .args .w) some (l .k)) (l .arcs) (l .inv .3), l .inv .2 ∙ s .pre .3)
+    (s .pre .0, held-formed q (s .args .w) _ (behind-shaped z q (s .args .w) some (l .k)) (l .arcs) (l .inv .3), l .inv .2 ∙ room s, λ t. l .inv .4 (eqb-true (l .k) 0 t))
 
 same-length-3 : tie.Need-same-length-3 Inv-loop μ-loop
-same-length-3 c = c .before .before .before .sweep .kept .1 .1 .0 ∙ c .before .before .before .before .before .before .before .loop .inv .1
+same-length-3 c = c .before .before .before .sweep .kept .1 .1 .1 .0 ∙ c .before .before .before .before .before .before .before .loop .inv .1
 
 same-length-4 : tie.Need-same-length-4 Inv-loop μ-loop
-same-length-4 c = c .before .before .before .sweep .kept .1 .1 .1 .0 ∙ c .before .before .before .before .before .before .before .loop .inv .2
+same-length-4 c = c .before .before .before .sweep .kept .1 .1 .1 .1 .0 ∙ c .before .before .before .before .before .before .before .loop .inv .2
 
 returns-2 : tie.Need-returns-2 Inv-loop μ-loop
 returns-2 c =
@@ -105,7 +128,7 @@ returns-2 c =
     let end : l .k ≡ a .rounds = omega arith in
     let shaped = behind-shaped z q (a .w) (s .pre .0 .some) (l .k) in (
       held-drops q (a .w) _ shaped (l .arcs) (l .inv .3) onPath (r .ensures .0) ∙ (λ i. laid 8 (a .w) (relaxedArcs q (a .w) (end i) (is i))),
-      held-swept q (a .w) _ shaped (l .arcs) (l .inv .3) _ (r .ensures .1) need (r .kept .1 .1 .1 .0 ∙ l .inv .2 ∙ s .pre .3) ∙ (λ i. numberCells q (a .w) need (relaxedArcs q (a .w) (end i) (is i))),
+      held-swept q (a .w) _ shaped (l .arcs) (l .inv .3) _ (r .ensures .1) need (r .kept .1 .1 .1 .1 .0 ∙ l .inv .2 ∙ room s) ∙ (λ i. numberCells q (a .w) need (relaxedArcs q (a .w) (end i) (is i))),
     )
 
 pub filter-spec : {M : Type 1} → statement M

@@ -22,7 +22,7 @@ use Rattle.lent.specs.Wide.{laid}
 use Rattle.diagram.specs.Answers.{boundedAs, lentOf}
 use Rattle.diagram.proofs.Refused.{numbers-right, refused-8, refused-11, served, short-arcs, short-cells, enough, no-guard, relaxed-stays, arcs-need, cells-need}
 use Rattle.diagram.proofs.Rounds.{relaxed-shaped}
-use Rattle.diagram.proofs.Served.{Open, front-long, bytes-front, bytes-done, cells-front, cells-done, bound-asks, bound-done}
+use Rattle.diagram.proofs.Served.{Open, front-long, bytes-front, bytes-done, part-long, cells-front, cells-need-long, cells-done, bound-asks, bound-done}
 use Rattle.diagram.proofs.relaxed.Statement.{statement}
 use Rattle.diagram.proofs.relaxed.Tie as tie
 
@@ -136,10 +136,17 @@ returns-4 c =
     let s = c .before .before .before .before .before .before .before .before .before .before in
     absurd (c .before .if4 .taken (c .before .before .guard-of .ensures ∙ no-guard (s .args .p) (s .pre)))
 
+slice-relend-prefix-build : tie.Need-slice-relend-prefix-build
+slice-relend-prefix-build c = search needs
+
+slice-aggregate-build : tie.Need-slice-aggregate-build
+slice-aggregate-build c = let e = c .before .before .before .before in sym (part-long (opened e) (numbers-need e))
+
 build-requires : tie.Need-build-requires
 build-requires c κs =
-    let o = opened (c .before .before .before) in
-    (o .ready .right, o .ready .some, o .ready .few, o .bytes)
+    let e = c .before .before .before .before in
+    let o = opened e in
+    (o .ready .right, o .ready .some, o .ready .few, o .bytes, part-long o (numbers-need e) ∙ numbers-need e)
 
 mul-zero-cells : tie.Need-mul-zero-cells
 mul-zero-cells c = search needs
@@ -160,29 +167,34 @@ slice-relend-prefix-filter : tie.Need-slice-relend-prefix-filter
 slice-relend-prefix-filter c = search needs
 
 slice-aggregate-filter : tie.Need-slice-aggregate-filter
-slice-aggregate-filter c = front-long (opened (c .before .before .before .before .before .before .before .before .before .before)) (bytes-need (c .before .before .before .before .before .before .before .before .before .before)) relaxed _ (c .before .before .before .before .before .before .build .ensures .0)
+slice-aggregate-filter c = let e = c .before .before .before .before .before .before .before .before .before .before .before .before in front-long (opened e) (bytes-need e) relaxed _ (c .before .before .before .before .before .before .before .build .ensures .0)
 
 slice-relend-prefix-filter-2 : tie.Need-slice-relend-prefix-filter-2
 slice-relend-prefix-filter-2 c = search needs
 
 slice-aggregate-filter-2 : tie.Need-slice-aggregate-filter-2
-slice-aggregate-filter-2 c = cells-front (opened (c .before .before .before .before .before .before .before .before .before .before .before)) (numbers-need (c .before .before .before .before .before .before .before .before .before .before .before)) _
+slice-aggregate-filter-2 c = let e = c .before .before .before .before .before .before .before .before .before .before .before .before .before in let b = c .before .before .before .before .before .before .before .before .build in cells-need-long (opened e) (numbers-need e) (b .last .1 .1 .1 .1 .0) (b .kept .1 .1 .1 .1 .0) _
 
 filter-requires : tie.Need-filter-requires
 filter-requires c κs =
-    let e = c .before .before .before .before .before .before .before .before .before .before .before in
-    let a = c .before .before .before .before .before .before .before .before .before .before .before .before .before .before .before .before .before .before .args in
+    let e = c .before .before .before .before .before .before .before .before .before .before .before .before .before in
+    let a = c .before .before .before .before .before .before .before .before .before .before .before .before .before .before .before .before .before .before .before .before .args in
     let o = opened e in
-    (o .ready, back-within (numbers-right (a .width) (a .rounds) (a .ceiling) (numbers (e .before .before .before .before)) .2) tt, bytes-front o (bytes-need e) relaxed _ (c .before .before .before .before .before .before .before .build .ensures .0), sym (cells-front o (numbers-need e) _) ∙ numbers-need e)
+    let b = c .before .before .before .before .before .before .before .before .build in (
+      o .ready,
+      back-within (numbers-right (a .width) (a .rounds) (a .ceiling) (numbers (e .before .before .before .before)) .2) tt,
+      bytes-front o (bytes-need e) relaxed _ (b .ensures .0),
+      cells-front o (numbers-need e) (b .last .1 .1 .1 .1 .0) (b .kept .1 .1 .1 .1 .0) _ ∙ b .ensures .1 .0,
+    )
 
 bound-of-requires : tie.Need-bound-of-requires
 bound-of-requires c κs =
-    let e = c .before .before .before .before .before .before .before .before .before .before .before .before .before .before .before .before in
-    let a = c .before .before .before .before .before .before .before .before .before .before .before .before .before .before .before .before .before .before .before .before .before .before .before .args in
+    let e = c .before .before .before .before .before .before .before .before .before .before .before .before .before .before .before .before .before .before in
+    let a = c .before .before .before .before .before .before .before .before .before .before .before .before .before .before .before .before .before .before .before .before .before .before .before .before .before .args in
     let o = opened e in
-    let f = c .before .before .before .before .filter in
+    let b = c .before .before .before .before .before .before .before .before .before .before .before .before .before .build in
     let shaped = relaxed-shaped (back (a .ceiling)) (campaignOf (a .p)) (a .width) (o .ready .some) (a .rounds) in
-    bound-asks o _ shaped _ (cells-done o _ shaped (numbers-need e) _ _ (c .before .before .before .before .before .before .before .before .zero-cells .ensures) (f .ensures .1))
+    bound-asks o _ shaped _ (cells-done o (numbers-need e) (b .last .1 .1 .1 .1 .0) (b .kept .1 .1 .1 .1 .0) _ shaped _ _ (c .before .before .before .before .before .before .before .before .zero-cells .ensures) (c .before .before .before .before .filter .ensures .1))
 
 same-length : tie.Need-same-length
 same-length c = search needs
@@ -192,20 +204,20 @@ same-length-2 c = search needs
 
 returns-5 : tie.Need-returns-5
 returns-5 c =
-    let e = c .before .before .before .before .before .before .before .before .before .before .before .before .before .before .before .before .before in
-    let s = c .before .before .before .before .before .before .before .before .before .before .before .before .before .before .before .before .before .before .before .before .before .before .before .before in
+    let e = c .before .before .before .before .before .before .before .before .before .before .before .before .before .before .before .before .before .before .before in
+    let s = c .before .before .before .before .before .before .before .before .before .before .before .before .before .before .before .before .before .before .before .before .before .before .before .before .before .before in
     let a = s .args in
     let o = opened e in
     let q = campaignOf (a .p) in
     let w = a .width in
     let told = toZ-ofZ (s .fits .ceiling) in
     let f = c .before .before .before .before .before .filter in
-    let b = c .before .before .before .before .before .before .before .before .before .before .before .before .before .build in
+    let b = c .before .before .before .before .before .before .before .before .before .before .before .before .before .before .build in
     let shaped = relaxed-shaped (a .ceiling) q w (o .ready .some) (a .rounds) in
-    let x = cells-done o _ shaped (numbers-need e) _ _ (c .before .before .before .before .before .before .before .before .before .zero-cells .ensures) (f .ensures .1 ∙ ap (λ (z : ℤ). numberCells q w (cellsNeed q w) (relaxedArcs q w (a .rounds) z)) told) in
+    let x = cells-done o (numbers-need e) (b .last .1 .1 .1 .1 .0) (b .kept .1 .1 .1 .1 .0) _ shaped _ _ (c .before .before .before .before .before .before .before .before .before .zero-cells .ensures) (f .ensures .1 ∙ ap (λ (z : ℤ). numberCells q w (cellsNeed q w) (relaxedArcs q w (a .rounds) z)) told) in
     let y = bytes-done o (bytes-need e) relaxed _ (b .ensures .0) _ shaped _ (f .ensures .0 ∙ ap (λ (z : ℤ). laid 8 w (relaxedArcs q w (a .rounds) z)) told) in
     let g = served (wrong s) (short s) (running s) (noBound (lent s)) (done s) (not-true _ (numbers (e .before .before .before .before))) (enough q w (lent s) (o .bytes) (o .room)) (relaxed-stays (a .p) (s .pre) w (a .rounds) (a .ceiling)) in
-    (c .bound-of .ensures ∙ bound-done o _ shaped _ x (b .ensures .1) ∙ ap (λ r. boundedAs (r .answer)) (sym g), (y ∙ ap (λ r. r .lent .arcs) (sym g), x ∙ ap (λ r. r .lent .cells) (sym g)))
+    (c .bound-of .ensures ∙ bound-done o _ shaped _ x (b .ensures .1 .1) ∙ ap (λ r. boundedAs (r .answer)) (sym g), (y ∙ ap (λ r. r .lent .arcs) (sym g), x ∙ ap (λ r. r .lent .cells) (sym g)))
 
 pub relaxed-spec : {M : Type 1} → statement M
 relaxed-spec =
@@ -223,6 +235,8 @@ relaxed-spec =
     guard-of-requires
     refusal-requires-4
     returns-4
+    slice-relend-prefix-build
+    slice-aggregate-build
     build-requires
     mul-zero-cells
     sub-zero-cells

@@ -27,7 +27,7 @@ use Rattle.lent.specs.Wide.{laid}
 use Rattle.diagram.specs.Answers.{boundedAs, lentOf}
 use Rattle.diagram.proofs.Refused.{width-right, refused-8, refused-11, served, short-arcs, short-cells, short-plan, short-either, enough, enough-plan, no-guard, restricted-stays, slots-are, arcs-need, cells-need}
 use Rattle.diagram.proofs.Leading.{leadOf}
-use Rattle.diagram.proofs.Served.{Open, front-long, bytes-done, swept-formed, swept-bytes, swept-numbers, restricted-shaped, lead-bytes, lead-cells, leads, cells-front, cells-done, first-there, bound-asks, bound-done, plan-led, plan-none, bits-zero}
+use Rattle.diagram.proofs.Served.{Open, front-long, bytes-done, swept-formed, swept-half, swept-bytes, swept-numbers, restricted-shaped, lead-bytes, lead-cells, leads, part-long, cells-front, cells-need-long, cells-done, first-there, bound-asks, bound-done, plan-led, plan-none, bits-zero}
 use Rattle.diagram.proofs.restricted.Statement.{statement}
 use Rattle.diagram.proofs.restricted.Tie as tie
 
@@ -144,10 +144,17 @@ returns-5 c =
     let s = c .before .before .before .before .before .before .before .before .before .before .before .before in
     absurd (c .before .if5 .taken (c .before .before .guard-of .ensures ∙ no-guard (s .args .p) (s .pre)))
 
+slice-relend-prefix-build : tie.Need-slice-relend-prefix-build
+slice-relend-prefix-build c = search needs
+
+slice-aggregate-build : tie.Need-slice-aggregate-build
+slice-aggregate-build c = let e = c .before .before .before .before in sym (part-long (opened e) (numbers-need e))
+
 build-requires : tie.Need-build-requires
 build-requires c κs =
-    let o = opened (c .before .before .before) in
-    (o .ready .right, o .ready .some, o .ready .few, o .bytes)
+    let e = c .before .before .before .before in
+    let o = opened e in
+    (o .ready .right, o .ready .some, o .ready .few, o .bytes, part-long o (numbers-need e) ∙ numbers-need e)
 
 mul-zero-cells : tie.Need-mul-zero-cells
 mul-zero-cells c = search needs
@@ -168,68 +175,78 @@ slice-relend-prefix-sweep : tie.Need-slice-relend-prefix-sweep
 slice-relend-prefix-sweep c = search needs
 
 slice-aggregate-sweep : tie.Need-slice-aggregate-sweep
-slice-aggregate-sweep c = front-long (opened (c .before .before .before .before .before .before .before .before .before .before)) (bytes-need (c .before .before .before .before .before .before .before .before .before .before)) restricted _ (c .before .before .before .before .before .before .build .ensures .0)
+slice-aggregate-sweep c = let e = c .before .before .before .before .before .before .before .before .before .before .before .before in front-long (opened e) (bytes-need e) restricted _ (c .before .before .before .before .before .before .before .build .ensures .0)
 
 slice-relend-prefix-sweep-2 : tie.Need-slice-relend-prefix-sweep-2
 slice-relend-prefix-sweep-2 c = search needs
 
 slice-aggregate-sweep-2 : tie.Need-slice-aggregate-sweep-2
-slice-aggregate-sweep-2 c = cells-front (opened (c .before .before .before .before .before .before .before .before .before .before .before)) (numbers-need (c .before .before .before .before .before .before .before .before .before .before .before)) _
+slice-aggregate-sweep-2 c = let e = c .before .before .before .before .before .before .before .before .before .before .before .before .before in let b = c .before .before .before .before .before .before .before .before .build in cells-need-long (opened e) (numbers-need e) (b .last .1 .1 .1 .1 .0) (b .kept .1 .1 .1 .1 .0) _
 
 sweep-requires : tie.Need-sweep-requires
 sweep-requires c κs =
-    let e = c .before .before .before .before .before .before .before .before .before .before .before in
+    let e = c .before .before .before .before .before .before .before .before .before .before .before .before .before in
     let o = opened e in
-    (o .ready, swept-formed o (bytes-need e) _ (c .before .before .before .before .before .before .before .build .ensures .0), sym (cells-front o (numbers-need e) _) ∙ numbers-need e)
+    let b = c .before .before .before .before .before .before .before .before .build in
+    let room = cells-need-long o (numbers-need e) (b .last .1 .1 .1 .1 .0) (b .kept .1 .1 .1 .1 .0) _ in
+    (o .ready, swept-formed o (bytes-need e) _ (b .ensures .0), sym room ∙ numbers-need e, λ t. cells-front o (numbers-need e) (b .last .1 .1 .1 .1 .0) (b .kept .1 .1 .1 .1 .0) _ ∙ swept-half o (bytes-need e) _ (b .ensures .0) (b .ensures .1 .0))
 
 -- ---- behind the sweep: the fronts of both buffers, and the cells as a whole
+abbrev past : tie.After-slice-known5 → tie.Else4
+past c = c .before .before .before .before .before .before .before .before .before .before .before .before .before .before .before .before .before .before .before .before .before
+
+abbrev start : tie.After-slice-known5 → tie.Start
+start c = past c .before .before .before .before .before .before .before .before .before
+
 abbrev frontBytes : tie.After-slice-known5 → List ℕ
-frontBytes c = c .before .before .before .before .before .before .before .sweep .last .1 .1 .0
+frontBytes c = c .before .before .before .before .before .before .before .sweep .last .1 .1 .1 .0
 
 abbrev frontCells : tie.After-slice-known5 → List ℤ
-frontCells c = c .before .before .before .before .before .before .before .sweep .last .1 .1 .1 .0
+frontCells c = c .before .before .before .before .before .before .before .sweep .last .1 .1 .1 .1 .0
 
 abbrev backCells : tie.After-slice-known5 → List ℤ
 backCells c =
-    let n = c .before .before .before .before .before .before .before .before .before .before .before .before .before .before .before .before .before .before .before .before .before .before .cells-need .result in
-    let x = c .before .before .before .before .before .before .before .before .before .before .before .before .before .before .before .before .before .before .before .before .before .before .before .before .before .before .before .before .args .cells .now in
+    let n = past c .before .before .before .cells-need .result in
+    let x = c .before .before .before .before .before .before .before .before .before .before .before .before .before .before .before .before .build .last .1 .1 .1 .1 .0 ++ drop n (start c .args .cells .now) in
     drop n (take n x ++ (c .before .before .before .before .before .before .before .before .before .before .before .zero-cells .last .0 ++ drop (length x - n) (drop n x)))
 
-front-bytes : (c : tie.After-slice-known5) → frontBytes c ≡ laid 8 (c .before .before .before .before .before .before .before .before .before .before .before .before .before .before .before .before .before .before .before .before .before .before .before .before .before .before .before .before .args .width) (restrictedArcs (campaignOf (c .before .before .before .before .before .before .before .before .before .before .before .before .before .before .before .before .before .before .before .before .before .before .before .before .before .before .before .before .args .p)) (c .before .before .before .before .before .before .before .before .before .before .before .before .before .before .before .before .before .before .before .before .before .before .before .before .before .before .before .before .args .width))
+front-bytes : (c : tie.After-slice-known5) → frontBytes c ≡ laid 8 (start c .args .width) (restrictedArcs (campaignOf (start c .args .p)) (start c .args .width))
 front-bytes c =
-    let e = c .before .before .before .before .before .before .before .before .before .before .before .before .before .before .before .before .before .before .before in
-    swept-bytes (opened e) (bytes-need e) _ (c .before .before .before .before .before .before .before .before .before .before .before .before .before .before .before .build .ensures .0) (c .before .before .before .before .before .before .before .sweep .ensures .0)
+    let e = past c in
+    swept-bytes (opened e) (bytes-need e) _ (c .before .before .before .before .before .before .before .before .before .before .before .before .before .before .before .before .build .ensures .0) (c .before .before .before .before .before .before .before .sweep .ensures .0)
 
 front-cells : (c : tie.After-slice-known5)
-    → (let a = c .before .before .before .before .before .before .before .before .before .before .before .before .before .before .before .before .before .before .before .before .before .before .before .before .before .before .before .before .args in
+    → (let a = start c .args in
     frontCells c ≡ numberCells (campaignOf (a .p)) (a .width) (cellsNeed (campaignOf (a .p)) (a .width)) (restrictedArcs (campaignOf (a .p)) (a .width)))
 front-cells c =
-    let e = c .before .before .before .before .before .before .before .before .before .before .before .before .before .before .before .before .before .before .before in
+    let e = past c in
     let o = opened e in
+    let b = c .before .before .before .before .before .before .before .before .before .before .before .before .before .before .before .before .build in
     let sw = c .before .before .before .before .before .before .before .sweep in
-    swept-numbers o (bytes-need e) _ (c .before .before .before .before .before .before .before .before .before .before .before .before .before .before .before .build .ensures .0) _ (sw .ensures .1) (sw .kept .1 .1 .1 .0 ∙ sym (cells-front o (numbers-need e) _) ∙ numbers-need e)
+    swept-numbers o (bytes-need e) _ (b .ensures .0) _ (sw .ensures .1) (sw .kept .1 .1 .1 .1 .0 ∙ sym (cells-need-long o (numbers-need e) (b .last .1 .1 .1 .1 .0) (b .kept .1 .1 .1 .1 .0) _) ∙ numbers-need e)
 
 whole-cells : (c : tie.After-slice-known5)
-    → (let a = c .before .before .before .before .before .before .before .before .before .before .before .before .before .before .before .before .before .before .before .before .before .before .before .before .before .before .before .before .args in
+    → (let a = start c .args in
     frontCells c ++ backCells c ≡ numberCells (campaignOf (a .p)) (a .width) (length (a .cells .now)) (restrictedArcs (campaignOf (a .p)) (a .width)))
 whole-cells c =
-    let e = c .before .before .before .before .before .before .before .before .before .before .before .before .before .before .before .before .before .before .before in
+    let e = past c in
     let o = opened e in
-    cells-done o _ (restricted-shaped o) (numbers-need e) _ (frontCells c) (c .before .before .before .before .before .before .before .before .before .before .before .zero-cells .ensures) (front-cells c)
+    let b = c .before .before .before .before .before .before .before .before .before .before .before .before .before .before .before .before .build in
+    cells-done o (numbers-need e) (b .last .1 .1 .1 .1 .0) (b .kept .1 .1 .1 .1 .0) _ (restricted-shaped o) _ (frontCells c) (c .before .before .before .before .before .before .before .before .before .before .before .zero-cells .ensures) (front-cells c)
 
 zero-bytes-requires : tie.Need-zero-bytes-requires
 zero-bytes-requires c κs = search needs
 
 slice-copy-out-if6 : tie.Need-slice-copy-out-if6
-slice-copy-out-if6 c = let o = opened (c .before .before .before .before .before .before .before .before .before .before .before .before .before .before .before .before .before .before .before) in first-there o _ (restricted-shaped o) _ (whole-cells c)
+slice-copy-out-if6 c = let o = opened (past c) in first-there o _ (restricted-shaped o) _ (whole-cells c)
 
 slice-reshare-prefix-lead : tie.Need-slice-reshare-prefix-lead
 slice-reshare-prefix-lead c = search needs
 
 slice-aggregate-lead : tie.Need-slice-aggregate-lead
 slice-aggregate-lead c =
-    let e = c .before .before .before .before .before .before .before .before .before .before .before .before .before .before .before .before .before .before .before .before .before .before in
     let k = c .before .before .before in
+    let e = past k in
     lead-bytes (opened e) (bytes-need e) (numbers-need e) (frontBytes k) _ (front-bytes k) (frontCells k) (backCells k) (front-cells k)
 
 slice-reshare-prefix-lead-2 : tie.Need-slice-reshare-prefix-lead-2
@@ -237,21 +254,22 @@ slice-reshare-prefix-lead-2 c = search needs
 
 slice-aggregate-lead-2 : tie.Need-slice-aggregate-lead-2
 slice-aggregate-lead-2 c =
-    let e = c .before .before .before .before .before .before .before .before .before .before .before .before .before .before .before .before .before .before .before .before .before .before .before in
     let k = c .before .before .before .before in
+    let e = past k in
     lead-cells (opened e) (bytes-need e) (numbers-need e) (frontBytes k) (frontBytes k) (front-bytes k) (frontCells k) (backCells k) (front-cells k)
 
 lead-requires : tie.Need-lead-requires
 lead-requires c κs =
-    let e = c .before .before .before .before .before .before .before .before .before .before .before .before .before .before .before .before .before .before .before .before .before .before .before .before in
     let k = c .before .before .before .before .before in
+    let e = past k in
     let present : getD (frontCells k ++ backCells k) 0 (pos 0) ≡ pos 0 → ⊥ = λ z. c .before .before .before .if6 .taken (ap (ofZ w32) z) in
     (leads (opened e) (bytes-need e) (numbers-need e) (frontBytes k) _ (front-bytes k) (frontCells k) (backCells k) (front-cells k) present, omega (arith, c .before .before .before .before .before .before .before .zero-bytes .kept .0, e .if4 .left))
 
 bound-of-requires : tie.Need-bound-of-requires
 bound-of-requires c κs =
-    let o = opened (c .before .before .before .before .before .before .before .before .before .before .before .before .before .before .before .before .before .before .before .before .before .before) in
-    bound-asks o _ (restricted-shaped o) _ (whole-cells (c .before .before .before))
+    let k = c .before .before .before in
+    let o = opened (past k) in
+    bound-asks o _ (restricted-shaped o) _ (whole-cells k)
 
 same-length : tie.Need-same-length
 same-length c = search needs
@@ -266,15 +284,15 @@ same-length-3 c =
 
 returns-6 : tie.Need-returns-6
 returns-6 c =
-    let e = c .before .before .before .before .before .before .before .before .before .before .before .before .before .before .before .before .before .before .before .before .before .before .before in
-    let s = c .before .before .before .before .before .before .before .before .before .before .before .before .before .before .before .before .before .before .before .before .before .before .before .before .before .before .before .before .before .before .before .before in
+    let k = c .before .before .before .before in
+    let e = past k in
+    let s = start k in
     let a = s .args in
     let o = opened e in
     let q = campaignOf (a .p) in
     let w = a .width in
-    let k = c .before .before .before .before in
     let z = c .before .before .before .before .before .before .zero-bytes in
-    let b = c .before .before .before .before .before .before .before .before .before .before .before .before .before .before .before .before .before .before .before .build in
+    let b = c .before .before .before .before .before .before .before .before .before .before .before .before .before .before .before .before .before .before .before .before .build in
     let shaped = restricted-shaped o in
     let x = whole-cells k in
     let count = length (a .plan .now) in
@@ -287,7 +305,7 @@ returns-6 c =
     (c .before .before .if6 .came) in
     let room = or-neither (shortDiagram q w (lent s)) (shortPlan q (lent s)) (enough q w (lent s) (o .bytes) (o .room)) (enough-plan q (lent s) (omega (arith, e .if4 .left, slot))) in
     let g = served (wrong s) (short s) (running s) (noBound (lent s)) (done s) (not-true _ (width (e .before .before .before .before .before))) room (restricted-stays (a .p) (s .pre) w) in (
-      c .bound-of .ensures ∙ bound-done o _ shaped _ x (b .ensures .1) ∙ ap (λ t. boundedAs (boundOf t (isExact restricted q w))) (sym (primal-bound q w)) ∙ ap (λ r. boundedAs (r .answer)) (sym g),
+      c .bound-of .ensures ∙ bound-done o _ shaped _ x (b .ensures .1 .1) ∙ ap (λ t. boundedAs (boundOf t (isExact restricted q w))) (sym (primal-bound q w)) ∙ ap (λ r. boundedAs (r .answer)) (sym g),
       (y ∙ ap (λ r. r .lent .arcs) (sym g), (x ∙ ap (λ r. r .lent .cells) (sym g), p ∙ ap (λ r. r .lent .plan) (sym g))),
     )
 
@@ -309,6 +327,8 @@ restricted-spec =
     guard-of-requires
     refusal-requires-5
     returns-5
+    slice-relend-prefix-build
+    slice-aggregate-build
     build-requires
     mul-zero-cells
     sub-zero-cells
