@@ -50,7 +50,7 @@ fn width_is_right(w: u32) -> bool
 }
 
 // The width is 1 to 16, there are at most 64 rounds, and the ceiling is within 2,000,000.
-fn numbers_are_right(w: u32, rounds: u32, ceiling: i32) -> bool
+pub fn numbers_are_right(w: u32, rounds: u32, ceiling: i32) -> bool
     ensures { λ r. ⌜ r ≡ not (wrongNumbers w rounds ceiling) ⌝ }
 {
     if !width_is_right(w) {
@@ -66,7 +66,7 @@ fn numbers_are_right(w: u32, rounds: u32, ceiling: i32) -> bool
 }
 
 // The bytes that the arcs need.
-fn arcs_need(n: usize, w: usize) -> usize
+pub fn arcs_need(n: usize, w: usize) -> usize
     requires { ⌜ (n ≤ 24) × (w ≤ 16) ⌝ }
     ensures { λ r. ⌜ r ≡ 8 * n * w ⌝ }
 {
@@ -74,7 +74,7 @@ fn arcs_need(n: usize, w: usize) -> usize
 }
 
 // The cells that the numbers need.
-fn cells_need(n: usize, m: usize, w: usize) -> usize
+pub fn cells_need(n: usize, m: usize, w: usize) -> usize
     requires { ⌜ (n ≤ 24) × (m ≤ 8) × (w ≤ 16) ⌝ }
     ensures { λ r. ⌜ r ≡ (n + 1) * w * (4 * m + 3) ⌝ }
 {

@@ -36,13 +36,13 @@ fn value_part(kind: u8, values: u16, slots: u32, i: usize) -> u32
 }
 
 // What the rules count in a slot: of each a coefficient and a set of values; zero past the rules.
-struct Parts {
+pub struct Parts {
     pub coefs: [i32; 8],
     pub values: [u32; 8],
 }
 
 // The parts of every rule in slot i.
-fn parts_of<'a>(
+pub fn parts_of<'a>(
     m: usize,
     i: usize,
     kinds: &'a [u8; 8],
@@ -72,7 +72,7 @@ fn parts_of<'a>(
 }
 
 // A rule's share of step v by its parts.
-fn lane(coef: i32, value: u32, v: usize) -> i32
+pub fn lane(coef: i32, value: u32, v: usize) -> i32
     requires { ⌜ (v < stepCount) × Within 1000 coef ⌝ }
     ensures { λ r. ⌜ (r ≡ laneOf coef value v) × Within 7001 r ⌝ }
 {
