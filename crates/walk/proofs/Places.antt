@@ -1,0 +1,94 @@
+-- Where do a node's arc byte and a child's cells stand, and how large are totals and budget?
+use mathlib.Core.List.{List, [], _∷_}
+use mathlib.Core.Bool.{true, true≢false}
+use mathlib.Core.Path.{_≡_, refl, sym, _∙_, ap}
+use Prim.Native.Nat.{ℕ, zero, suc, _+_, _*_, _-_, _/_, _%_, _^_, _≤_, _<_}
+use native.Mathlib.Nat.{mul-le-mul-left, mul-le-mul-right, suc-mul, mul-assoc, mod-lt}
+use native.Mathlib.Numerals.{add-one}
+use native.Mathlib.Omega.{arith}
+use lib.IntN.{ℤ, pos, natAbs, _+ℤ_, _-ℤ_, _*ℤ_}
+use lib.ListN.{length, getD, take, drop, length-drop}
+use lib.Seq.{length-take-le}
+use mir.Syntax.{w32}
+use mir.Val.{SFits}
+use Rattle.laws.specs.Z.{Within, sum-within, mul-within, back, neg, parts}
+use Rattle.laws.proofs.Each.{Each, each-at, each-take, each-drop, each-more}
+use Rattle.lent.specs.Lanes.{sums}
+use Rattle.slot.specs.Rows.{laneOf, lanesOf}
+use Rattle.slot.proofs.Laws.{lane-within, lanes-long}
+use Rattle.state.proofs.Sizes.{neg-size}
+use Rattle.walk.specs.Beginnings.{Walkable}
+use Rattle.step.specs.Steps.{isOpen, withShares}
+
+-- ---- places
+mul-few : (i k w l : ℕ) → i ≤ k → w ≤ l → i * w ≤ k * l
+mul-few i k w l h f = omega (arith, mul-le-mul-right w h, mul-le-mul-left k f)
+
+pub arc-place : (i j v n w : ℕ) → i < n → j < w → v < 8 → (i * w + j) * 8 + v < 8 * n * w
+arc-place i j v n w hi hj hv = omega (arith, mul-le-mul-right w hi, suc-mul i w, mul-assoc 8 n w)
+
+module _ {n m w : ℕ} {weights coefs : List ℤ} {arcs : List ℕ} {cells : List ℤ} (g : Walkable n m w weights coefs arcs cells) where
+  pub byte-few : (k : ℕ) → getD arcs k 0 ≤ w
+  byte-few k = each-at (λ b. b ≤ w) arcs k 0 (omega arith) (g .lead)
+
+  pub row-few : (i : ℕ) → i ≤ n → i * w ≤ 384
+  row-few i h = let few = g .slots-few in mul-few i 24 w 16 (omega arith) (g .nodes-few)
+
+  pub cells-few : (i b : ℕ) → i < n → b ≤ w → ((i + 1) * w + b) * (4 * m + 3) ≤ length cells
+  cells-few i b h f =
+      let there : (i + 1) * w + b ≤ suc n * w = rw (add-one i) (omega (arith, mul-le-mul-right w h, suc-mul i w, suc-mul n w)) in
+      rw (g .numbers) (mul-le-mul-right (4 * m + 3) there)
+
+  pub cells-small : (i b : ℕ) → i < n → b ≤ w → ((i + 1) * w + b) * (4 * m + 3) ≤ 14000
+  cells-small i b h f =
+      let rules = g .rules-few in
+      let wide = g .nodes-few in
+      omega (arith, mul-few ((i + 1) * w + b) 400 (4 * m + 3) 35 (omega (arith, row-few (i + 1) (omega arith))) (omega arith))
+
+-- ---- a child of an open arc
+pub open-some : (m set v b next : ℕ) (cells : List ℤ) (z : ℤ) → isOpen m set v b next cells z ≡ true → 0 < b
+open-some m set v zero next cells z e = absurd (true≢false (sym e))
+open-some m set v (suc b) next cells z e = omega arith
+
+pub child-end : (k m : ℕ) → 0 < k → (k - 1) * (4 * m + 3) + 4 * m + 3 ≡ k * (4 * m + 3)
+child-end zero m h = absurd (omega arith)
+child-end (suc k) m h = let less : suc k - 1 ≡ k = omega arith in rw less (omega (arith, suc-mul k (4 * m + 3)))
+
+pub one-less : (n left : ℕ) → left ≤ n → (left ≡ 0 → ⊥) → n - (left - 1) ≡ suc (n - left)
+one-less n left h e = omega arith
+
+-- ---- sizes
+more : {z : ℤ} {m n : ℕ} → m ≤ n → Within m z → Within n z
+more h f = record { size = omega (arith, f .size) }
+
+pub budget-small : (i : ℕ) → i ≤ 24 → {z : ℤ} → Within (2000000 + 70000 * i) z → Within 10000000 z
+budget-small i h f = more (omega arith) f
+
+pub rest-within : (i : ℕ) {b y : ℤ} → Within (2000000 + 70000 * i) b → Within 70000 y → Within (2000000 + 70000 * suc i) (b -ℤ y)
+rest-within i {b} {y} h k = more (omega arith) (sum-within {n = 70000} h (record { size = omega (arith, neg-size y, k .size) }))
+
+pub totals-small : (i : ℕ) → i ≤ 24 → (ts : List ℤ) → Each (Within (7001 * i)) ts → Each (Within 1000000) ts
+totals-small i h ts f = each-more (Within (7001 * i)) (Within 1000000) (λ z k. more (omega arith) k) ts f
+
+sums-within : (i v : ℕ) → v < 8 → (ts cs : List ℤ) (vs : List ℕ) → Each (Within (7001 * i)) ts → Each (Within 1000) cs → Each (Within (7001 * suc i)) (sums ts (lanesOf cs vs v))
+sums-within i v h [] cs vs f k = tt
+sums-within i v h (t ∷ ts) [] vs f k = tt
+sums-within i v h (t ∷ ts) (c ∷ cs) [] f k = tt
+sums-within i v h (t ∷ ts) (c ∷ cs) (b ∷ vs) f k =
+    (more (omega arith) (sum-within {n = 7001} (f .0) (lane-within (k .0) h (mod-lt (b / 2 ^ v) (omega arith)))), sums-within i v h ts cs vs (f .1) (k .1))
+
+pub shares-within : (i v : ℕ) → v < 8 → (coefs : List ℤ) (values : List ℕ) (ts : List ℤ) → Each (Within (7001 * i)) ts → Each (Within 1000) coefs → Each (Within (7001 * suc i)) (withShares coefs values i v ts)
+shares-within i v h coefs values ts f k =
+    sums-within i v h ts (take 8 (drop (i * 8) coefs)) (take 8 (drop (i * 8) values)) f (each-take (Within 1000) 8 (drop (i * 8) coefs) (each-drop (Within 1000) (i * 8) coefs k))
+
+sums-long : (ts xs : List ℤ) → length ts ≤ length xs → length (sums ts xs) ≡ length ts
+sums-long [] xs h = refl
+sums-long (t ∷ ts) [] h = absurd (omega arith)
+sums-long (t ∷ ts) (x ∷ xs) h = ap suc (sums-long ts xs (omega arith))
+
+pub shares-long : (i v : ℕ) → i < 24 → (coefs : List ℤ) (values : List ℕ) (ts : List ℤ) → length coefs ≡ 192 → length values ≡ 192 → length ts ≡ 8 → length (withShares coefs values i v ts) ≡ 8
+shares-long i v h coefs values ts c d e =
+    let own : length (take 8 (drop (i * 8) coefs)) ≡ 8 = length-take-le 8 (drop (i * 8) coefs) (rw (length-drop (i * 8) coefs, c) (omega arith)) in
+    let same : length (take 8 (drop (i * 8) values)) ≡ 8 = length-take-le 8 (drop (i * 8) values) (rw (length-drop (i * 8) values, d) (omega arith)) in
+    let all : length (lanesOf (take 8 (drop (i * 8) coefs)) (take 8 (drop (i * 8) values)) v) ≡ 8 = lanes-long (take 8 (drop (i * 8) coefs)) (take 8 (drop (i * 8) values)) v (own ∙ sym same) ∙ own in
+    sums-long ts (lanesOf (take 8 (drop (i * 8) coefs)) (take 8 (drop (i * 8) values)) v) (rw (all, e) (omega arith)) ∙ e

@@ -1,0 +1,331 @@
+-- Do the buffers of a problem without fault steer the walk, and is what the recursion lays the page asked for?
+use mathlib.Core.Path.{_≡_, refl, sym, ap, subst, _∙_}
+use mathlib.Core.Logic.{_⊎_, ⊎-elim}
+use mathlib.Core.List.{List, [], _∷_, _++_, map, map-id, append-nil}
+use mathlib.Core.Bool.{Bool, true, not, cond}
+use mathlib.Core.Option.{none, some}
+use Prim.Native.Nat.{ℕ, zero, suc, _+_, _*_, _-_, _≤_, _<_}
+use native.Mathlib.Omega.{arith}
+use native.Mathlib.Nat.{zero-add, zero-mul, suc-mul, mul-assoc}
+use borrow.Author.Tests.{leb-true, eq-eqb, ne-eqb}
+use lib.Dec.{leb, eqb, ltb}
+use lib.ListN.{length, getD, take, drop, replicate, length-append, length-replicate, length-drop, length-map, take-append-drop, drop-of-length-le}
+use lib.Seq.{length-take-le, take-at, take-all, take-append-le, getD-take}
+use lib.IntN.{ℤ, pos, negℤ, _*ℤ_}
+use Rattle.laws.specs.Z.{Within}
+use Rattle.laws.specs.Lists.{every, flat, gather, from, padded, parted}
+use Rattle.laws.proofs.Lists.{and-l, and-r, length-from, getD-from}
+use Rattle.laws.proofs.Each.{Each, each-at, each-append, each-flat, each-from, each-more, each-gather, every-each}
+use Rattle.laws.proofs.Filled.{length-padded, take-padded, row-padded, map-places, each-padded}
+use Rattle.meaning.specs.Plan.{Rule, Campaign, slots}
+use Rattle.meaning.specs.Problem.{version1, ruleOf}
+use Rattle.meaning.specs.Diagram.{Arcs}
+use Rattle.meaning.specs.Filter.{Numbers, begins, downNumbers, upNumbers}
+use Rattle.meaning.specs.Buffers.{nodeNeed, arcsIn, ofForm, nodeCells, layerCells, allCells}
+use Rattle.meaning.specs.Page.{walked, pageOf, pageBytes}
+use Rattle.problem.specs.declared.Problem.{Problem}
+use Rattle.problem.specs.Held.{saidAt, campaignOf}
+use Rattle.problem.proofs.Faultless.{Right, right}
+use Rattle.lent.specs.Small.{Fit}
+use Rattle.lent.specs.Vec.{arcVec}
+use Rattle.lent.specs.Lanes.{lanesAt}
+use Rattle.lent.proofs.Shape.{Form}
+use Rattle.lent.proofs.Fit.{downs-fit, ups-fit}
+use Rattle.lent.proofs.Cells.{cells-within}
+use Rattle.lent.proofs.Vec.{slot-at}
+use Rattle.lent.proofs.Whole.{downsAt, upsAt}
+use Rattle.slot.specs.Rows.{coefParts, valueParts, lanesOf, stepLanes}
+use Rattle.slot.proofs.Laws.{lanes-long, step-long, parts-right, coefs-long, values-long}
+use Rattle.slot.proofs.Said.{map-map, said-weight, said-coefs, said-row, said-small, rules-long}
+use Rattle.numbers.specs.Whole.{Ready, Formed}
+use Rattle.numbers.proofs.Passes.{Setting, setting, few-rules, few-slots, parted-flat}
+use Rattle.numbers.proofs.Blocks.{block-at}
+use Rattle.step.specs.Answers.{listedAs}
+use Rattle.walk.specs.Beginnings.{rests, layAll, Walkable, Steers, Finds}
+use Rattle.step.specs.Steps.{Laid, coefTable, valueTable}
+use Rattle.walk.proofs.Laying.{end, lay-count, lay-more, lay-page, lay-long}
+use Rattle.walk.proofs.Rests.{rests-long, walked-all, walked-behind}
+use Rattle.walk.proofs.Nodes.{flat-long, downs-count, ups-count, downOf, upOf, down-has, up-has, cells-long}
+use Rattle.walk.proofs.Guided as guided
+
+-- ---- no byte leads past the w nodes of a layer, in the last layer past the sink
+below : (c : ℕ) (l : List (List ℕ)) → every (every (λ b. leb b c)) l ≡ true → Each (Each (λ b. b ≤ c)) l
+below c l e = every-each (every (λ b. leb b c)) (Each (λ b. b ≤ c)) (λ bs d. every-each (λ b. leb b c) (λ b. b ≤ c) (λ b t. leb-true b c t) bs d) l e
+
+pub form-of : (w : ℕ) (a : Arcs) → ofForm w a ≡ true → Form w a
+form-of w [] e = tt
+form-of w (l ∷ []) e = below 1 l e
+form-of w (l ∷ m ∷ ls) e =
+    let first = every (every (λ b. leb b w)) l in
+    (below w l (and-l first (ofForm w (m ∷ ls)) e), form-of w (m ∷ ls) (and-r first (ofForm w (m ∷ ls)) e))
+
+form-low : (w : ℕ) → 1 ≤ w → (a : Arcs) → Form w a → Each (Each (Each (λ b. b ≤ w))) a
+form-low w h [] f = tt
+form-low w h (l ∷ []) f = (each-more (Each (λ b. b ≤ 1)) (Each (λ b. b ≤ w)) (λ bs e. each-more (λ b. b ≤ 1) (λ b. b ≤ w) (λ b t. omega arith) bs e) l f, tt)
+form-low w h (l ∷ m ∷ ls) f = (f .0, form-low w h (m ∷ ls) (f .1))
+
+bytes-low : (w n : ℕ) (b : List ℕ) → length b ≡ n * (w * 8) → Each (Each (Each (λ b. b ≤ w))) (map (parted w 8) (parted n (w * 8) b)) → Each (λ b. b ≤ w) b
+bytes-low w zero [] e h = tt
+bytes-low w zero (x ∷ b) e h = absurd (omega (arith, zero-mul (w * 8)))
+bytes-low w (suc n) b e h =
+    let k = w * 8 in
+    let more = suc-mul n k in
+    let first = take k b in
+    let long : length first ≡ w * 8 = length-take-le k b (omega arith) in
+    let low : Each (λ b. b ≤ w) first = rw (parted-flat w 8 first long) at (each-flat (λ b. b ≤ w) (parted w 8 first) (h .0)) in
+    rw (take-append-drop k b) at (each-append (λ b. b ≤ w) first (drop k b) low (bytes-low w n (drop k b) (omega (arith, length-drop k b)) (h .1)))
+
+-- zeros are within any bound
+pub zeros-within : (m n : ℕ) → Each (Within m) (replicate n (pos 0))
+zeros-within m zero = tt
+zeros-within m (suc n) = (record { size = omega arith }, zeros-within m n)
+
+-- ---- the cells of all nodes: how many, and how large
+module _ (k w : ℕ) where
+  layer-each : (P : List ℤ → Type 0) (ds us : List Numbers) → ((j : ℕ) → P (nodeCells k (getD ds j none) (getD us j none))) → Each P (layerCells k ds us)
+  layer-each P [] us h = tt
+  layer-each P (d ∷ ds) [] h = tt
+  layer-each P (d ∷ ds) (u ∷ us) h = (h 0, layer-each P ds us (λ j. h (suc j)))
+
+  all-long : (ds us : List (List Numbers)) → length us ≡ length ds → ((i j : ℕ) → length (nodeCells k (getD (getD ds i []) j none) (getD (getD us i []) j none)) ≡ k)
+      → length (allCells k w ds us) ≡ length ds * (w * k)
+  all-long [] us e h = sym (zero-mul (w * k))
+  all-long (d ∷ ds) [] e h = absurd (omega arith)
+  all-long (d ∷ ds) (u ∷ us) e h =
+      let z = replicate k (pos 0) in
+      let rows = padded w z (layerCells k d u) in
+      let each = each-padded (λ x. length x ≡ k) w z (layerCells k d u) (length-replicate k (pos 0)) (layer-each (λ x. length x ≡ k) d u (h 0)) in
+      let here : length (flat rows) ≡ w * k = flat-long k rows each ∙ ap (λ (n : ℕ). n * k) (length-padded z w (layerCells k d u)) in
+      length-append (flat rows) (allCells k w ds us) ∙ omega (arith, here, all-long ds us (omega arith) (λ i. h (suc i)), suc-mul (length ds) (w * k))
+
+  all-within : (ds us : List (List Numbers)) → ((i j : ℕ) → i < length ds → Each (Within 4000000) (nodeCells k (getD (getD ds i []) j none) (getD (getD us i []) j none))) → Each (Within 4000000) (allCells k w ds us)
+  all-within [] us h = tt
+  all-within (d ∷ ds) [] h = tt
+  all-within (d ∷ ds) (u ∷ us) h =
+      let z = replicate k (pos 0) in
+      let rows = padded w z (layerCells k d u) in
+      let zeros : Each (Within 4000000) z = zeros-within 4000000 k in
+      each-append (Within 4000000) (flat rows) (allCells k w ds us)
+      (each-flat (Within 4000000) rows (each-padded (Each (Within 4000000)) w z (layerCells k d u) zeros (layer-each (Each (Within 4000000)) d u (λ j. h 0 j (omega arith)))))
+      (all-within ds us (λ i j b. h (suc i) j (omega arith)))
+
+module _ {q : Campaign} {w n m : ℕ} {b : List ℕ} {a : Arcs} (s : Setting q w n m b a) where
+  abbrev cellsOf : List ℤ
+  cellsOf = allCells (nodeNeed q) w (downNumbers q a) (upNumbers q a)
+
+  layers : length (downNumbers q a) ≡ suc n
+  layers = downs-count q 0 (begins q ∷ []) a ∙ ap suc (s .count)
+
+  pub cells-count : length cellsOf ≡ suc n * (w * (4 * m + 3))
+  cells-count =
+      all-long (nodeNeed q) w (downNumbers q a) (upNumbers q a) (ups-count q 0 a ∙ sym (downs-count q 0 (begins q ∷ []) a)) (λ i j. cells-long q (downOf q a i j) (upOf q a i j) (down-has q a i j) (up-has q a i j))
+      ∙ (λ t. layers t * (w * (4 * s .rules t + 3)))
+
+  pub cells-inside : Each (Within 4000000) cellsOf
+  cells-inside =
+      let c = s .count in
+      let few = s .whole .long in
+      all-within (nodeNeed q) w (downNumbers q a) (upNumbers q a)
+      (λ i j b.
+      cells-within q (s .small) i (length a - i) (omega (arith, layers)) (omega arith) (nodeNeed q) (downOf q a i j) (upOf q a i j)
+      (each-at (Fit q i) (downsAt q a i) j none tt (downs-fit q (s .small) a (s .whole .few) i))
+      (each-at (Fit q (length a - i)) (upsAt q a i) j none tt (ups-fit q (s .small) a (s .whole .few) i)))
+
+-- ---- what the rules count, by the tables
+first-eight : (l m z : List ℤ) → length l ≡ 8 → take 8 (l ++ m ++ z) ≡ l
+first-eight l m z h = take-append-le 8 (l ++ m) z (omega (arith, length-append l m)) ∙ take-append-le 8 l m (omega arith) ∙ take-all 8 l (omega arith)
+
+-- the row of slot i in a table of rows of eight
+row-of : {A : Type 0} (z : A) (f : ℕ → List A) → ((i : ℕ) → length (f i) ≡ 8) → (n i : ℕ) → n ≤ 24 → i < n → take 8 (drop (i * 8) (padded 192 z (gather f (from 0 n)))) ≡ f i
+row-of z f wide n i few h =
+    row-padded f 8 wide 192 z (from 0 n) i 8 0 (omega (arith, length-from 0 n)) (omega (arith, length-from 0 n)) (omega arith)
+    ∙ take-all 8 (f (getD (from 0 n) i 0)) (omega (arith, wide (getD (from 0 n) i 0)))
+    ∙ ap f (getD-from 0 n i h ∙ zero-add i)
+
+module _ (p : Problem) (h : Right version1 p) where
+  abbrev coefsOf : List ℤ
+  coefsOf = coefTable (p .n) (p .m) (p .kinds) (p .coefs)
+
+  abbrev valuesOf : List ℕ
+  valuesOf = valueTable (p .n) (p .m) (p .kinds) (p .values) (p .slots)
+
+  coefs-inside : Each (Within 1000) coefsOf
+  coefs-inside =
+      each-padded (Within 1000) 192 (pos 0) (gather (λ i. coefParts (p .m) i (p .kinds) (p .coefs)) (from 0 (p .n))) (record { size = omega arith })
+      (each-gather (λ i. i < p .n) (Within 1000) (λ i. coefParts (p .m) i (p .kinds) (p .coefs)) (λ i b. parts-right (p .m) i (p .kinds) (p .coefs) (said-coefs p h i b)) (from 0 (p .n))
+      (each-from (λ i. i < p .n) 0 (p .n) (λ i b. rw (zero-add (p .n)) at b)))
+
+  module _ (i v : ℕ) (b : i < p .n) (c : v < 8) where
+    abbrev cs : List ℤ
+    cs = coefParts (p .m) i (p .kinds) (p .coefs)
+
+    abbrev bs : List ℕ
+    bs = valueParts (p .m) i (p .kinds) (p .values) (p .slots)
+
+    abbrev shares : List ℤ
+    shares = map (λ r. r .share i v) (campaignOf p .rules)
+
+    lanes-are : lanesOf cs bs v ≡ padded 8 (pos 0) shares
+    lanes-are =
+        let weight = getD (p .weights) i (pos 0) in
+        let eight = coefs-long (p .m) i (p .kinds) (p .coefs) in
+        let same = values-long (p .m) i (p .kinds) (p .values) (p .slots) in
+        let f = stepLanes cs bs weight in
+        let long : length (lanesOf cs bs v) ≡ 8 = lanes-long cs bs v (eight ∙ sym same) ∙ eight in
+        let whole : f v ≡ arcVec (campaignOf p) i v =
+        sym (block-at 17 f (step-long cs bs weight eight same) 0 8 v c ∙ ap f (zero-add v)) ∙ ap (λ (row : List ℤ). lanesAt row (v * 17)) (said-row p h i b) ∙ slot-at (campaignOf p) (said-small p h) i v c in
+        sym (first-eight (lanesOf cs bs v) (map negℤ (lanesOf cs bs v)) ((weight *ℤ pos v) ∷ []) long) ∙ ap (take 8) whole
+        ∙ first-eight (padded 8 (pos 0) shares) (padded 8 (pos 0) (map negℤ shares)) (campaignOf p .price i v ∷ []) (length-padded (pos 0) 8 shares)
+
+    shares-are : shares ≡ take (p .m) (lanesOf (take 8 (drop (i * 8) coefsOf)) (take 8 (drop (i * 8) valuesOf)) v)
+    shares-are =
+        let few = h .head .most in
+        let rules = h .head .rules in
+        let long : length shares ≡ p .m = length-map (campaignOf p .rules) (λ r. r .share i v) ∙ rules-long p in
+        let coefs = row-of (pos 0) (λ i. coefParts (p .m) i (p .kinds) (p .coefs)) (λ i. coefs-long (p .m) i (p .kinds) (p .coefs)) (p .n) i few b in
+        let values = row-of 0 (λ i. valueParts (p .m) i (p .kinds) (p .values) (p .slots)) (λ i. values-long (p .m) i (p .kinds) (p .values) (p .slots)) (p .n) i few b in
+        sym (take-padded (pos 0) 8 shares (omega arith)) ∙ ap (λ (k : ℕ). take k (padded 8 (pos 0) shares)) long
+        ∙ sym (ap (take (p .m)) ((λ t. lanesOf (coefs t) (values t) v) ∙ lanes-are))
+
+  -- a bound of each rule
+  bounds-are : (g : Rule → ℤ) (l : List ℤ) → length l ≡ 8 → ((k : ℕ) → g (ruleOf (saidAt p k)) ≡ getD l k (pos 0)) → map g (campaignOf p .rules) ≡ take (p .m) l
+  bounds-are g l long same =
+      let few : length (take (p .m) l) ≡ p .m = length-take-le (p .m) l (omega (arith, h .head .rules)) in
+      ap (map g) (map-map ruleOf (saidAt p) (from 0 (p .m))) ∙ map-map g (λ (k : ℕ). ruleOf (saidAt p k)) (from 0 (p .m))
+      ∙ ap (λ (n : ℕ). map (λ (k : ℕ). g (ruleOf (saidAt p k))) (from 0 n)) (sym few)
+      ∙ map-places (λ (k : ℕ). g (ruleOf (saidAt p k))) (take (p .m) l) (pos 0) (λ k b. same k ∙ sym (getD-take (p .m) l k (pos 0) (omega arith)))
+
+-- the tables are whole
+module _ (p : Problem) where
+  pub coefs-count : {coefs : List ℤ} → coefs ≡ coefTable (p .n) (p .m) (p .kinds) (p .coefs) → length coefs ≡ 192
+  coefs-count is = ap length is ∙ length-padded (pos 0) 192 (gather (λ i. coefParts (p .m) i (p .kinds) (p .coefs)) (from 0 (p .n)))
+
+  pub values-count : {values : List ℕ} → values ≡ valueTable (p .n) (p .m) (p .kinds) (p .values) (p .slots) → length values ≡ 192
+  values-count is = ap length is ∙ length-padded {A = ℕ} 0 192 (gather (λ i. valueParts (p .m) i (p .kinds) (p .values) (p .slots)) (from 0 (p .n)))
+
+-- its slots
+pub slots-are : {p : Problem} → Right version1 p → length (p .sets) ≡ 24 → slots (campaignOf p) ≡ p .n
+slots-are {p} h sets = length-take-le (p .n) (p .sets) (omega (arith, h .head .most))
+
+-- ---- the whole: arcs of the form, and their numbers in the cells
+module _ {p : Problem} {w : ℕ} {arcs : List ℕ} {cells : List ℤ} (r : Ready p w) (sets : length (p .sets) ≡ 24) (f : Formed (campaignOf p) w arcs)
+    (e : cells ≡ allCells (nodeNeed (campaignOf p)) w (downNumbers (campaignOf p) (arcsIn (campaignOf p) w arcs)) (upNumbers (campaignOf p) (arcsIn (campaignOf p) w arcs))) where
+  no-fault : Right version1 p
+  no-fault = right version1 p (r .right)
+
+  set-up : Setting (campaignOf p) w (p .n) (p .m) arcs (arcsIn (campaignOf p) w arcs)
+  set-up = setting r f sets
+
+  pub walkable : {coefs : List ℤ} → coefs ≡ coefTable (p .n) (p .m) (p .kinds) (p .coefs) → Walkable (p .n) (p .m) w (p .weights) coefs arcs cells
+  walkable is =
+      let s = set-up in
+      let q = campaignOf p in
+      let low = form-low w (r .some) (arcsIn q w arcs) (form-of w (arcsIn q w arcs) (f .form)) in
+      record {
+        slots-few = few-slots r;
+        rules-few = few-rules r;
+        nodes-some = r .some;
+        nodes-few = r .few;
+        bytes = f .long ∙ ap (λ (n : ℕ). 8 * n * w) (slots-are no-fault sets);
+        numbers = ap length e ∙ cells-count s ∙ sym (mul-assoc (suc (p .n)) w (4 * p .m + 3));
+        lead = bytes-low w (p .n) arcs (s .long) (subst (λ (n : ℕ). Each (Each (Each (λ b. b ≤ w))) (map (parted w 8) (parted n (w * 8) arcs))) (slots-are no-fault sets) low);
+        inside = rw e (cells-inside s);
+        priced = λ i b. said-weight p no-fault i b;
+        counted = rw is (coefs-inside p no-fault);
+      }
+
+  pub steers : {coefs : List ℤ} {values : List ℕ} → coefs ≡ coefTable (p .n) (p .m) (p .kinds) (p .coefs) → values ≡ valueTable (p .n) (p .m) (p .kinds) (p .values) (p .slots) → length (p .lb) ≡ 8 → length (p .ub) ≡ 8
+      → Steers (campaignOf p) (arcsIn (campaignOf p) w arcs) (p .n) (p .m) w (p .sets) (p .weights) (p .lb) (p .ub) coefs values arcs cells
+  steers is are low high = record {
+    eight = refl;
+    sets-are = refl;
+    slots-are = slots-are no-fault sets;
+    rules-are = rules-long p;
+    prices-are = λ i v b c. ap (λ (z : ℤ). z *ℤ pos v) (getD-take (p .n) (p .weights) i (pos 0) b);
+    shares-are = λ i v b c. rw (is, are) (shares-are p no-fault i v b c);
+    lbs-are = bounds-are p no-fault (λ r. r .lb) (p .lb) low (λ k. refl);
+    ubs-are = bounds-are p no-fault (λ r. r .ub) (p .ub) high (λ k. refl);
+    arcs-are = refl;
+    formed = f .form;
+    cells-are = e;
+  }
+
+-- ---- from the source: what the recursion lays is what the walk finds behind the start
+first-zeros : (m k : ℕ) → m ≤ k → take m (replicate k (pos 0)) ≡ replicate m (pos 0)
+first-zeros zero k h = refl
+first-zeros (suc m) zero h = absurd (omega arith)
+first-zeros (suc m) (suc k) h = ap (λ (l : List ℤ). pos 0 ∷ l) (first-zeros m k (omega arith))
+
+module _ (p : Problem) (h : Right version1 p) (sets : length (p .sets) ≡ 24) (a : Arcs) (c : ℤ) (start plan : List ℕ) (begun : plan ≡ start ++ replicate (24 - length start) 0) where
+  abbrev found : Bool → List (List ℕ)
+  found own = rests (campaignOf p) a 0 0 (take (p .m) (replicate 8 (pos 0))) c own (take (p .n) plan)
+
+  zeros-are : take (p .m) (replicate 8 (pos 0)) ≡ replicate (length (campaignOf p .rules)) (pos 0)
+  zeros-are = first-zeros (p .m) 8 (h .head .rules) ∙ ap (λ (k : ℕ). replicate k (pos 0)) (sym (rules-long p))
+
+  some-slot : 0 < slots (campaignOf p)
+  some-slot = omega (arith, slots-are h sets, h .head .some)
+
+  pub found-walked : (length start ≡ 0) ⊎ (length start ≡ p .n) → found (not (eqb (length start) 0)) ≡ walked a (campaignOf p) c start
+  found-walked s =
+      let q = campaignOf p in
+      let starts = said-small p h .starts in
+      rw zeros-are
+      (⊎-elim
+      (λ z. rw (eq-eqb (length start) 0 z) (walked-all q a c starts some-slot (take (p .n) plan) ∙ ap (walked a q c) (sym (none start z))))
+      (λ z.
+      let own : take (p .n) plan ≡ start = ap (take (p .n)) begun ∙ take-at start (replicate (24 - length start) 0) (p .n) z in
+      rw (ne-eqb (length start) 0 (λ o. omega (arith, h .head .some)), own) (walked-behind q a c starts some-slot start))
+      s)
+    where
+      none : (l : List ℕ) → length l ≡ 0 → l ≡ []
+      none [] z = refl
+      none (x ∷ l) z = absurd (omega arith)
+
+  -- each is a plan of n steps
+  pub walked-long : (length start ≡ 0) ⊎ (length start ≡ p .n) → Each (λ p₁. length p₁ ≡ p .n) (walked a (campaignOf p) c start)
+  walked-long s =
+      let o : slots (campaignOf p) - 0 ≡ p .n = omega (arith, slots-are h sets) in
+      let own = not (eqb (length start) 0) in
+      subst (Each (λ p₁. length p₁ ≡ p .n)) (found-walked s) (rw o at (rests-long (campaignOf p) a 0 0 (take (p .m) (replicate 8 (pos 0))) c own (take (p .n) plan)))
+
+-- so the recursion's promise at the source says what is laid: the plans that the walk finds
+module _ {p : Problem} {w : ℕ} {arcs : List ℕ} {cells coefs : List ℤ} {values : List ℕ} (r : Ready p w) (sets : length (p .sets) ≡ 24) (low : length (p .lb) ≡ 8) (high : length (p .ub) ≡ 8)
+    (f : Formed (campaignOf p) w arcs)
+    (e : cells ≡ allCells (nodeNeed (campaignOf p)) w (downNumbers (campaignOf p) (arcsIn (campaignOf p) w arcs)) (upNumbers (campaignOf p) (arcsIn (campaignOf p) w arcs)))
+    (is : coefs ≡ coefTable (p .n) (p .m) (p .kinds) (p .coefs)) (are : values ≡ valueTable (p .n) (p .m) (p .kinds) (p .values) (p .slots)) where
+  pub laid-walked : (c z : ℤ) (start plan : List ℕ) → z ≡ c → plan ≡ start ++ replicate (24 - length start) 0 → (length start ≡ 0) ⊎ (length start ≡ p .n) → (cap : ℕ) (page later : List ℕ) (seen : ℕ)
+      → Finds (p .n) (p .m) w (p .sets) (p .weights) (p .lb) (p .ub) coefs values arcs cells (not (eqb (length start) 0)) (p .n - p .n) 0 (replicate 8 (pos 0)) z plan cap page 0 later seen
+      → record { page = later; seen = seen } ≡ layAll (p .n) cap (record { page = page; seen = 0 }) (walked (arcsIn (campaignOf p) w arcs) (campaignOf p) c start)
+  laid-walked c z start plan same begun s cap page later seen finds =
+      let q = campaignOf p in
+      let a = arcsIn q w arcs in
+      let h = right version1 p (r .right) in
+      let none : p .n - p .n ≡ 0 = omega arith in
+      let all : p .n - 0 ≡ p .n = omega arith in
+      let st = steers r sets f e is are low high in
+      let stands = guided.begins q a (p .n) (p .m) w (p .sets) (p .weights) (p .lb) (p .ub) coefs values arcs cells (walkable r sets f e is) st (h .head .some) z (take (p .m) (replicate 8 (pos 0))) in
+      let own = not (eqb (length start) 0) in
+      let walk = found-walked p h sets a c start plan begun s in
+      (rw (none, all) at finds) q a st stands ∙ ap (layAll (p .n) cap (record { page = page; seen = 0 })) (map-id (rests q a 0 0 (take (p .m) (replicate 8 (pos 0))) z own (take (p .n) plan)) ∙ ap (λ (t : ℤ). rests q a 0 0 (take (p .m) (replicate 8 (pos 0))) t own (take (p .n) plan)) same ∙ walk)
+
+-- ---- the answer
+module _ (n cap : ℕ) (page later : List ℕ) (seen : ℕ) (ps : List (List ℕ)) (room : cap * n ≤ length page) (each : Each (λ p. length p ≡ n) ps)
+    (is : record { page = later; seen = seen } ≡ layAll n cap (record { page = page; seen = 0 }) ps) where
+  seen-is : seen ≡ end n cap page ps room each .seen
+  seen-is = ap (λ (s : Laid). s .seen) is
+
+  abbrev count : ℕ
+  count = cond (ltb cap seen) cap seen
+
+  count-is : count ≡ length (take cap ps)
+  count-is = (λ t. cond (ltb cap (seen-is t)) cap (seen-is t)) ∙ lay-count n cap page ps room each
+
+  pub answer : record { count = count; more = ltb cap seen } ≡ listedAs (pageOf cap ps)
+  answer = let more = ap (ltb cap) seen-is ∙ lay-more n cap page ps room each in λ t. record { count = count-is t; more = more t }
+
+  -- the plans, and zeros behind them
+  pub bytes : take (count * n) later ++ replicate (length later - count * n) 0 ≡ pageBytes (length page) (pageOf cap ps)
+  bytes =
+      let long : length later ≡ length page = ap (λ (s : Laid). length (s .page)) is ∙ lay-long n cap page ps room each in
+      (λ t. take (count-is t * n) (is t .page) ++ replicate (long t - count-is t * n) 0) ∙ lay-page n cap page ps room each

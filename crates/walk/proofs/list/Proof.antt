@@ -1,0 +1,135 @@
+-- `list` meets its contract: the tables and the start steer the recursion from the source; what it lays is the page asked for.
+use borrow.Author.Needs.{needs}
+use mathlib.Core.Path.{_≡_, refl, sym, ap, _∙_}
+use mathlib.Core.List.{List}
+use mathlib.Core.Logic.{⊎-elim}
+use mathlib.Core.Bool.{cond}
+use Prim.Native.Nat.{ℕ, _-_, _*_, _/_, _≤_}
+use native.Mathlib.Omega.{arith}
+use native.Mathlib.Nat.{div-mul-le-self, div-le-self, mul-le-mul-right}
+use denote.Ref.{now}
+use borrow.Author.Tests.{ltb-false}
+use lib.Dec.{ltb}
+use lib.ListN.{length, replicate, length-append, length-replicate}
+use lib.IntN.{pos}
+use mir.Syntax.{w64}
+use mir.Val.{Fits}
+use mir.Facts.{toZ-ofZ, fits-le}
+use Rattle.laws.specs.Z.{back-within}
+use Rattle.laws.proofs.Lists.{cond-first, cond-second}
+use Rattle.meaning.specs.Problem.{version1}
+use Rattle.meaning.specs.Buffers.{arcsIn}
+use Rattle.meaning.specs.Page.{walked, pageOf, pageBytes}
+use Rattle.problem.specs.Held.{campaignOf}
+use Rattle.problem.proofs.Faultless.{right}
+use Rattle.problem.proofs.Arrays.{long}
+use Rattle.step.specs.Answers.{listedAs}
+use Rattle.walk.proofs.Steered.{zeros-within, slots-are, coefs-count, values-count, walkable, laid-walked, walked-long, answer, bytes}
+use Rattle.walk.proofs.list.Statement.{statement}
+use Rattle.walk.proofs.list.Tie as tie
+
+-- how long the problem's arrays and the page are
+module _ (s : tie.Start) where
+  sets-long : length (s .args .t1 .sets) ≡ 24
+  sets-long = search long
+
+  low-long : length (s .args .t1 .lb) ≡ 8
+  low-long = search long
+
+  high-long : length (s .args .t1 .ub) ≡ 8
+  high-long = search long
+
+  page-fits : Fits w64 (length (now (s .args .page)))
+  page-fits = omega arith
+
+-- a start is at most 24 steps
+start-few : (s : tie.Start) → length (now (s .args .start)) ≤ 24
+start-few s = let h = right version1 (s .args .t1) (s .pre .0 .right) in ⊎-elim (λ z. omega arith) (λ z. omega (arith, h .head .most)) (s .pre .2)
+
+-- what fits on the page
+abbrev most : tie.Start → ℕ
+most s = length (now (s .args .page)) / s .args .t1 .n
+
+room : (s : tie.Start) → most s * s .args .t1 .n ≤ length (now (s .args .page))
+room s = div-mul-le-self (length (now (s .args .page))) (s .args .t1 .n)
+
+div-cap : tie.Need-div-cap
+div-cap c = let s = c .before .before .before in right version1 (s .args .t1) (s .pre .0 .right) .head .some
+
+put-parts-requires : tie.Need-put-parts-requires
+put-parts-requires c κs =
+    let s = c .before .before .before .before .before .before .before .before .before .before in
+    let head = right version1 (s .args .t1) (s .pre .0 .right) .head in
+    (head .most, head .rules, refl, refl)
+
+begun-requires : tie.Need-begun-requires
+begun-requires c κs = start-few (c .before .before .before .before .before .before .before .before .before .before .before)
+
+node-requires : tie.Need-node-requires
+node-requires c κs =
+    let b = c .before .before .before .before .before .before .before .before .before .before in
+    let s = b .before .before .before .before .before .before .before .before .before .before .before .before in
+    let p = s .args .t1 in
+    let sets = sets-long s in
+    let parts = b .before .put-parts in
+    let few = start-few s in
+    let start = now (s .args .start) in (
+      walkable (s .pre .0) sets (s .pre .3) (s .pre .4) (parts .ensures .0),
+      omega arith,
+      s .pre .0 .some,
+      zeros-within (7001 * (p .n - p .n)) 8,
+      record { size = omega (arith, back-within (s .pre .1) tt .size) },
+      room s,
+      div-le-self (length (now (s .args .page))) (p .n),
+      omega arith,
+      coefs-count p (parts .ensures .0),
+      values-count p (parts .ensures .1),
+      length-replicate 8 (pos 0),
+      ap length (b .begun .ensures) ∙ length-append start (replicate (24 - length start) 0) ∙ omega (arith, length-replicate {A = ℕ} (24 - length start) 0),
+    )
+
+-- the page behind the recursion
+module _ (c : tie.After-node) where
+  abbrev later : List ℕ
+  later = c .node .last .1 .1 .1 .1 .1 .1 .1 .1 .1 .1 .1 .1 .1 .1 .1 .1 .1 .1 .0
+
+  kept : length later ≡ length (now (c .before .before .before .before .before .before .before .before .before .before .before .before .before .before .before .before .before .before .before .before .before .before .before .args .page))
+  kept = c .node .kept .1 .1 .1 .1 .1 .1 .1 .1 .1 .1 .1 .1 .1 .1 .1 .1 .1 .1 .0
+
+closed-requires : tie.Need-closed-requires
+closed-requires c κs = let k = c .before .before .before in let s = k .before .before .before .before .before .before .before .before .before .before .before .before .before .before .before .before .before .before .before .before .before .before .before in rw (kept k) (room s)
+
+same-length : tie.Need-same-length
+same-length c = search needs
+
+returns : tie.Need-returns
+returns c =
+    let k = c .before .before .before .before .before .before in
+    let b = k .before .before .before .before .before .before .before .before .before .before .before in
+    let s = b .before .before .before .before .before .before .before .before .before .before .before .before in
+    let a = s .args in
+    let p = a .t1 in
+    let q = campaignOf p in
+    let sets = sets-long s in
+    let parts = b .before .put-parts in
+    let page = now (a .page) in
+    let h = right version1 p (s .pre .0 .right) in
+    let ps = walked (arcsIn q (a .w) (now (a .arcs))) q (a .ceiling) (now (a .start)) in
+    let each = walked-long p h sets (arcsIn q (a .w) (now (a .arcs))) (a .ceiling) (now (a .start)) (b .begun .result) (b .begun .ensures) (s .pre .2) in
+    let laid = laid-walked (s .pre .0) sets (low-long s) (high-long s) (s .pre .3) (s .pre .4) (parts .ensures .0) (parts .ensures .1) (a .ceiling) _ (now (a .start)) (b .begun .result) (toZ-ofZ (s .fits .ceiling)) (b .begun .ensures) (s .pre .2) (most s) page (later k) (k .node .result) (k .node .ensures .0) in
+    let n = slots-are h sets in (
+      c .before .before .closed .ensures .0 ∙ answer (p .n) (most s) page (later k) (k .node .result) ps (room s) each laid ∙ ap (λ (n : ℕ). listedAs (pageOf (length page / n) ps)) (sym n),
+      c .before .before .closed .ensures .1 ∙ bytes (p .n) (most s) page (later k) (k .node .result) ps (room s) each laid ∙ ap (λ (n : ℕ). pageBytes (length page) (pageOf (length page / n) ps)) (sym n),
+    )
+
+pub list-spec : {M : Type 1} → statement M
+list-spec =
+    tie.close
+    (tie.spec
+    div-cap
+    put-parts-requires
+    begun-requires
+    node-requires
+    closed-requires
+    same-length
+    returns)

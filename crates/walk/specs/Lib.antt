@@ -1,0 +1,3 @@
+-- What the contracts cite.
+-- what a beginning of a plan leads to
+pub mod Beginnings
