@@ -8,7 +8,7 @@ use native.Mathlib.Omega.{arith}
 use Rattle.meaning.specs.Problem.{version1}
 use Rattle.meaning.specs.Problem as paper
 use Rattle.meaning.specs.File.{Got, refused, got, readOf}
-use Rattle.meaning.specs.Calls.{Lent, emptyStart, read, judged, judge, betterOf, better, noBound, relaxedOf, relaxedCall, restrictedOf, restrictedCall}
+use Rattle.meaning.specs.Calls.{Lent, emptyStart, read, judged, judge, betterOf, better, noBound, relaxedOf, relaxedCall, restrictedOf, restrictedCall, noCount, pageOn, pageCall}
 use Rattle.meaning.proofs.Rows.{refused-range}
 use Rattle.problem.specs.Held.{said, held, campaignOf, faultIn}
 use Rattle.problem.proofs.Again.{accepted-held}
@@ -56,6 +56,9 @@ module _ (s : List ℕ) {k : ℕ} (e : readOf s ≡ refused k) where
   pub restricted-refused : (w : ℕ) (l : Lent) → restrictedCall s w l ≡ noBound l k
   restricted-refused w l = rw e refl
 
+  pub page-refused : (w n : ℕ) (c : ℤ) (a : List ℕ) (l : Lent) → pageCall s w n c a l ≡ noCount l k
+  page-refused w n c a l = rw e refl
+
 -- ---- an accepted one: the answer is that of the problem by value
 module _ (s : List ℕ) (r : Reading) (o : Opened s r) where
   pub judge-opened : (p : List ℕ) → judge s p ≡ judged (campaignOf (r .problem)) p
@@ -77,3 +80,8 @@ module _ (s : List ℕ) (r : Reading) (o : Opened s r) where
   restricted-opened w l =
       let read : restrictedCall s w l ≡ restrictedOf (paper.campaign (o .problem)) w l = rw (o .is) refl in
       read ∙ ap (λ (q : paper.Problem). restrictedOf (paper.campaign q) w l) (sym (o .says))
+
+  pub page-opened : (w n : ℕ) (c : ℤ) (a : List ℕ) (l : Lent) → pageCall s w n c a l ≡ pageOn (campaignOf (r .problem)) w n c a l
+  page-opened w n c a l =
+      let read : pageCall s w n c a l ≡ pageOn (paper.campaign (o .problem)) w n c a l = rw (o .is) refl in
+      read ∙ ap (λ (q : paper.Problem). pageOn (paper.campaign q) w n c a l) (sym (o .says))

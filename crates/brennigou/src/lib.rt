@@ -1,13 +1,15 @@
 // The public library: the operations from a plan file, for any bytes. Reading alone is `rtp::read`.
 ghost use mathlib.Core.Path.{_≡_};
 ghost use mathlib.Core.List.{[]};
-ghost use Rattle.meaning.specs.Calls.{judge, better, relaxedCall, restrictedCall};
+ghost use Rattle.meaning.specs.Calls.{judge, better, relaxedCall, restrictedCall, pageCall};
 ghost use Rattle.judge.specs.Answers.{judgedAs};
 ghost use Rattle.diagram.specs.Answers.{boundedAs, lentOf};
+ghost use Rattle.pages.specs.Answers.{countedAs};
 ghost use Rattle.brennigou.specs.Handed.{Handed};
 use diagram::Bound;
 use judge::Judged;
 use judge::Which;
+use pages::Count;
 
 // The judge of one plan: any bytes, of any length.
 pub fn judge(file: &[u8], plan: &[u8]) -> Judged
@@ -82,4 +84,28 @@ pub fn restricted(
     }
     let p = r.problem;
     diagram::restricted(p, width, arcs, cells, plan)
+}
+
+// A page of lawful plans within the ceiling after the start, in dictionary order; arcs and cells hold the relaxed diagram.
+pub fn page(
+    file: &[u8],
+    width: u32,
+    rounds: u32,
+    ceiling: i32,
+    start: &[u8],
+    arcs: &mut [u8],
+    cells: &mut [i32],
+    page: &mut [u8],
+) -> Count
+    ensures { λ r. ⌜ r ≡ countedAs (pageCall (now (file .entry)) width rounds ceiling (now (start .entry)) (lentOf (now (arcs .entry)) (now (cells .entry)) (now (page .entry))) .answer) ⌝ }
+    ensures arcs { λ r. ⌜ now (arcs .exit) ≡ pageCall (now (file .entry)) width rounds ceiling (now (start .entry)) (lentOf (now (arcs .entry)) (now (cells .entry)) (now (page .entry))) .lent .arcs ⌝ }
+    ensures cells { λ r. ⌜ now (cells .exit) ≡ pageCall (now (file .entry)) width rounds ceiling (now (start .entry)) (lentOf (now (arcs .entry)) (now (cells .entry)) (now (page .entry))) .lent .cells ⌝ }
+    ensures page { λ r. ⌜ now (page .exit) ≡ pageCall (now (file .entry)) width rounds ceiling (now (start .entry)) (lentOf (now (arcs .entry)) (now (cells .entry)) (now (page .entry))) .lent .plan ⌝ }
+{
+    let r = rtp::read(file);
+    if r.number != 0 {
+        return pages::refusal(r.number);
+    }
+    let p = r.problem;
+    pages::page(p, width, rounds, ceiling, start, arcs, cells, page)
 }
