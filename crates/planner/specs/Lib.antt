@@ -1,0 +1,2 @@
+-- The problem that is built in.
+pub mod Sample
