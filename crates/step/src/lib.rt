@@ -2,7 +2,7 @@
 ghost use mathlib.Core.Path.{_≡_};
 ghost use mathlib.Core.List.{_++_};
 ghost use mathlib.Core.Bool.{_&&_, cond};
-ghost use Prim.Native.Nat.{_+_, _*_, _-_, _≤_, _<_};
+ghost use Prim.Native.Nat.{suc, _+_, _*_, _-_, _≤_, _<_};
 ghost use lib.Dec.{eqb, ltb};
 ghost use lib.ListN.{length, take, drop, replicate};
 ghost use lib.IntN.{pos};
@@ -159,6 +159,21 @@ pub fn put(plan: &[u8; 24], n: usize, cap: usize, page: &mut [u8], seen: usize) 
         }
     }
     seen + 1
+}
+
+// A plan has arrived at the sink: it comes by, unless it is the start itself or the page has all that it asks for.
+pub fn leaf(own: bool, plan: &[u8; 24], n: usize, cap: usize, page: &mut [u8], seen: usize) -> usize
+    requires { ⌜ (n ≤ 24) × (cap * n ≤ length (now page)) × (cap ≤ length (now page)) × (n ≤ length (now plan)) × (seen ≤ suc cap) ⌝ }
+    ensures laid { λ r. ⌜ record { page = now (page .exit); seen = r } ≡ cond own (record { page = now (page .entry); seen = seen }) (laying n cap (record { page = now (page .entry); seen = seen }) (take n (now (plan .entry)))) ⌝ }
+    ensures few { λ r. ⌜ r ≤ suc cap ⌝ }
+{
+    if own {
+        return seen;
+    }
+    if cap < seen {
+        return seen;
+    }
+    put(plan, n, cap, page, seen)
 }
 
 // The start, before the walk overwrites it step by step.

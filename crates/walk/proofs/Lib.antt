@@ -15,3 +15,5 @@ pub mod Turns
 pub mod Steered
 -- the sweep of any arcs of the form
 pub mod Sweeping
+-- the form of bytes that no builder need have made
+pub mod Forming

@@ -37,10 +37,6 @@ led-map pre v (p ∷ ps) = rw (led-map pre v ps, append-assoc pre (v ∷ []) p) 
 pub still : (i : ℕ) (x y : List ℕ) → take (suc i) x ≡ take (suc i) y → take i x ≡ take i y
 still i x y e = sym (take-take i (suc i) x (omega arith)) ∙ ap (take i) e ∙ take-take i (suc i) y (omega arith)
 
--- at most one more plan comes by than there is room for
-pub laid-few : (n cap seen r : ℕ) (page later p : List ℕ) → seen ≤ cap → record { page = later; seen = r } ≡ laying n cap (record { page = page; seen = seen }) p → r ≤ suc cap
-laid-few n cap seen r page later p h e = let is : r ≡ suc seen = rw (le-ltb cap seen h) at (ap (λ (s : Laid). s .seen) e) in omega arith
-
 -- the start's rest counts only where the steps are its own
 free-rests : (q : Campaign) (a : Arcs) (i j : ℕ) (ts : List ℤ) (c : ℤ) (own : Bool) (s u : List ℕ) → (own ≡ true → s ≡ u) → rests q a i j ts c own s ≡ rests q a i j ts c own u
 free-rests q a i j ts c true s u h = rw (h refl) refl
@@ -64,14 +60,14 @@ module _ (n m w : ℕ) (sets : List ℕ) (weights lb ub coefs : List ℤ) (value
       let is : i ≡ slots q = e ∙ sym (s .slots-are) in
       rw none (rests-end q a i j (take m totals) budget own is (length-a q a n m w sets weights lb ub coefs values arcs cells g s) (b .ends is))
 
-  pub sink-own : Walkable n m w weights coefs arcs cells → i ≡ n → own ≡ true → Said page seen
-  sink-own g e o q a s b = rw (at-sink g e q a s b, o) refl
-
-  pub sink-put : Walkable n m w weights coefs arcs cells → i ≡ n → own ≡ false → (later : List ℕ) (r : ℕ) → record { page = later; seen = r } ≡ laying n cap (record { page = page; seen = seen }) (take n plan) → Said later r
-  sink-put g e o later r h q a s b = rw (at-sink g e q a s b, o, append-nil (take i plan), e) h
-
-  pub sink-full : Walkable n m w weights coefs arcs cells → i ≡ n → own ≡ false → cap < seen → Said page seen
-  sink-full g e o f = sink-put g e o page seen (rw (lt-ltb cap seen f) refl)
+  pub sink-leaf : Walkable n m w weights coefs arcs cells → i ≡ n → (later : List ℕ) (r : ℕ)
+      → record { page = later; seen = r } ≡ cond own (record { page = page; seen = seen }) (laying n cap (record { page = page; seen = seen }) (take n plan)) → Said later r
+  sink-leaf g e later r h q a s b = h ∙ go own (at-sink g e q a s b)
+    where
+      go : (o : Bool) {l : List (List ℕ)} → l ≡ cond o [] ([] ∷ [])
+          → cond o (record { page = page; seen = seen }) (laying n cap (record { page = page; seen = seen }) (take n plan)) ≡ layAll n cap (record { page = page; seen = seen }) (map begins l)
+      go true f = rw f refl
+      go false f = rw (f, append-nil (take i plan), e) refl
 
   -- ---- at a node: what is left from step v on gives the whole
   abbrev pub Going : List ℕ → ℕ → ℕ → Type 0
@@ -153,3 +149,9 @@ module _ (n m w : ℕ) (sets : List ℕ) (weights lb ub coefs : List ℤ) (value
         go e =
             let count : n - i ≡ suc (n - suc i) = omega arith in
             rw (drop-set-lt (suc i) written i v (omega arith), e, count, drop-one-take (n - suc i) (drop i plan), drop-drop 1 i plan, add-one i) refl
+
+-- the same of equal numbers and pages
+pub moved : (n m w : ℕ) (sets : List ℕ) (weights lb ub coefs : List ℤ) (values arcs : List ℕ) (cells : List ℤ) (own : Bool) (i j : ℕ) (totals : List ℤ) (budget : ℤ) (plan : List ℕ) (cap : ℕ) (page : List ℕ) (seen : ℕ)
+    → (budget₁ : ℤ) (later later₁ : List ℕ) (t t₁ v : ℕ) → budget₁ ≡ budget → later₁ ≡ later → t₁ ≡ t → Going n m w sets weights lb ub coefs values arcs cells own i j totals budget plan cap page seen later t v
+    → Going n m w sets weights lb ub coefs values arcs cells own i j totals budget₁ plan cap page seen later₁ t₁ v
+moved n m w sets weights lb ub coefs values arcs cells own i j totals budget plan cap page seen budget₁ later later₁ t t₁ v e f g h = rw (e, f, g) h

@@ -1,7 +1,7 @@
 // The walk: recursion over the slots along any arcs, pruned by the up numbers of these arcs; the page of the plans that it finds.
 ghost use mathlib.Core.Path.{_≡_};
 ghost use mathlib.Core.List.{_++_, map};
-ghost use mathlib.Core.Bool.{_&&_};
+ghost use mathlib.Core.Bool.{true, _&&_};
 ghost use lib.Dec.{eqb};
 ghost use mathlib.Core.Logic.{_⊎_};
 ghost use Prim.Native.Nat.{ℕ, suc, _+_, _*_, _-_, _/_, _≤_, _<_};
@@ -48,21 +48,12 @@ fn node<'a>(
     page: &mut [u8],
     seen: usize,
 ) -> usize
-    requires { ⌜ Walkable n m w (now weights) (now coefs) (now arcs) (now cells) × (left ≤ n) × (j < w) × Each (Within (7001 * (n - left))) (now totals) × Within (2000000 + 70000 * (n - left)) budget × (cap * n ≤ length (now page)) × (cap ≤ length (now page)) × (seen ≤ suc cap) × (length (now coefs) ≡ 192) × (length (now values) ≡ 192) × (length (now totals) ≡ 8) × (length (now plan) ≡ 24) ⌝ }
+    requires { ⌜ Walkable n m w (now weights) (now coefs) (now arcs) (now cells) × (1 ≤ left) × (left ≤ n) × (j < w) × Each (Within (7001 * (n - left))) (now totals) × Within (2000000 + 70000 * (n - left)) budget × (cap * n ≤ length (now page)) × (cap ≤ length (now page)) × (seen ≤ suc cap) × (length (now coefs) ≡ 192) × (length (now values) ≡ 192) × (length (now totals) ≡ 8) × (length (now plan) ≡ 24) ⌝ }
     ensures found { λ r. ⌜ Finds n m w (now (sets .entry)) (now (weights .entry)) (now (lb .entry)) (now (ub .entry)) (now (coefs .entry)) (now (values .entry)) (now (arcs .entry)) (now (cells .entry)) own (n - left) j (now (totals .entry)) budget (now (plan .entry)) cap (now (page .entry)) seen (now (page .exit)) r ⌝ }
     ensures begins { λ r. ⌜ take (n - left) (now (plan .exit)) ≡ take (n - left) (now (plan .entry)) ⌝ }
     ensures long { λ r. ⌜ length (now (plan .exit)) ≡ 24 ⌝ }
     ensures few { λ r. ⌜ r ≤ suc cap ⌝ }
 {
-    if left == 0 {
-        if own {
-            return seen;
-        }
-        if cap < seen {
-            return seen;
-        }
-        return step::put(plan, n, cap, page, seen);
-    }
     let i = n - left;
     let weight = weights[i];
     let set = sets[i];
@@ -80,28 +71,33 @@ fn node<'a>(
             let at = ((i + 1) * w + b - 1) * (4 * m + 3);
             if step::may_keep(m, lb, ub, cells, at, &here) {
                 plan[i] = v as u8;
-                t = node(
-                    n,
-                    m,
-                    w,
-                    sets,
-                    weights,
-                    lb,
-                    ub,
-                    coefs,
-                    values,
-                    arcs,
-                    cells,
-                    step::is_own(own, v, first),
-                    left - 1,
-                    b - 1,
-                    &here,
-                    rest,
-                    plan,
-                    cap,
-                    page,
-                    t,
-                );
+                let mine = step::is_own(own, v, first);
+                if left == 1 {
+                    t = step::leaf(mine, plan, n, cap, page, t);
+                } else {
+                    t = node(
+                        n,
+                        m,
+                        w,
+                        sets,
+                        weights,
+                        lb,
+                        ub,
+                        coefs,
+                        values,
+                        arcs,
+                        cells,
+                        mine,
+                        left - 1,
+                        b - 1,
+                        &here,
+                        rest,
+                        plan,
+                        cap,
+                        page,
+                        t,
+                    );
+                }
             }
         }
         v += 1;
@@ -184,4 +180,33 @@ pub fn walk(
 {
     numbers::sweep(p, w, false, arcs, cells);
     list(p, w, ceiling, start, arcs, cells, page)
+}
+
+// ---- the form of bytes that no builder need have made
+fn are_at_most(bytes: &[u8], most: usize) -> bool
+    ensures { λ r. ⌜ (r ≡ true → Each (λ b. b ≤ most) (now (bytes .entry))) ⌝ }
+{
+    let mut k: usize = 0;
+    while k < bytes.len() {
+        if most < step::step(bytes[k]) {
+            return false;
+        }
+        k += 1;
+    }
+    true
+}
+
+// They are as many as the arcs of n slots need, each 0 to w, in the last slot 0 or 1.
+pub fn is_formed(n: usize, w: usize, arcs: &[u8]) -> bool
+    requires { ⌜ (1 ≤ n) × (n ≤ 24) × (w ≤ 16) ⌝ }
+    ensures { λ r. ⌜ (r ≡ true → (q : Campaign) → q .steps ≡ 8 → slots q ≡ n → Formed q w (now (arcs .entry))) ⌝ }
+{
+    if arcs.len() != 8 * n * w {
+        return false;
+    }
+    if !are_at_most(arcs, w) {
+        return false;
+    }
+    let last = 8 * (n - 1) * w;
+    are_at_most(&arcs[last..], 1)
 }

@@ -8,7 +8,8 @@ use denote.Ref.{now}
 use mir.Syntax.{w32}
 use mir.Val.{toZ}
 use mir.Facts.{toZ-ofZ}
-use mathlib.Core.Bool.{true, false}
+use mathlib.Core.Bool.{_&&_}
+use lib.Dec.{eqb}
 use lib.ListN.{length, getD, take, drop, set, length-set}
 use lib.Seq.{take-set-le, take-take}
 use lib.IntN.{pos, _-ℤ_, _*ℤ_}
@@ -16,7 +17,7 @@ use Rattle.laws.specs.Z.{back, back-within, back-is, widen}
 use Rattle.state.proofs.Sizes.{dif-fits, dif-back}
 use Rattle.step.specs.Steps.{withShares}
 use Rattle.walk.proofs.Places.{arc-place, byte-few, row-few, cells-few, cells-small, open-some, child-end, one-less, budget-small, rest-within, totals-small, shares-within, shares-long}
-use Rattle.walk.proofs.Turns.{Going, still, laid-few, sink-own, sink-put, sink-full, going-begins, going-ends, going-full, going-past, going-back, going-on}
+use Rattle.walk.proofs.Turns.{Going, moved, still, sink-leaf, going-begins, going-ends, going-full, going-past, going-back, going-on}
 use Prim.Native.Nat.{ℕ, _<_}
 use borrow.Fn.Kinds.{In}
 use borrow.Fn.PlainCycle.{Measures, is, falls, and}
@@ -27,8 +28,8 @@ use Rattle.problem.proofs.price.Reads as price-reads
 use Rattle.step.proofs.first_step.Reads as first-step-reads
 use Rattle.step.proofs.is_open.Reads as is-open-reads
 use Rattle.step.proofs.is_own.Reads as is-own-reads
+use Rattle.step.proofs.leaf.Reads as leaf-reads
 use Rattle.step.proofs.may_keep.Reads as may-keep-reads
-use Rattle.step.proofs.put.Reads as put-reads
 use Rattle.step.proofs.with_shares.Reads as with-shares-reads
 use Rattle.walk.proofs.+node.{statement}
 use Rattle.walk.proofs.+node.Tie.{close}
@@ -50,127 +51,8 @@ abbrev node-μ-loop : node-lts.MeasureT-loop
 node-μ-loop n m w sets weights lb ub coefs values arcs cells own left j totals budget plan₀ cap page₀ seen i weight set first t₀ v₀ plan page t v =
     8 - v
 
--- src/lib.rt:178:13
-node-returns : (t : ℕ) → node-lts.Need-returns (
-  put-reads.Asked,
-  put-reads.Learnt,
-  first-step-reads.Asked,
-  first-step-reads.Learnt,
-  price-reads.Asked,
-  price-reads.Learnt,
-  is-open-reads.Asked,
-  is-open-reads.Learnt,
-  with-shares-reads.Asked,
-  with-shares-reads.Learnt,
-  may-keep-reads.Asked,
-  may-keep-reads.Learnt,
-  is-own-reads.Asked,
-  is-own-reads.Learnt,
-  node-below t,
-  node.Post,
-) (node-at t) node.Post node-Inv-loop node-μ-loop
-node-returns t c =
-    let x = c .before .before .before .before in
-    let a = x .args in
-    (sink-own (a .n) (a .m) (a .w) (now (a .sets)) (now (a .weights)) (now (a .lb)) (now (a .ub)) (now (a .coefs)) (now (a .values)) (now (a .arcs)) (now (a .cells)) (a .own) (a .n - a .left) (a .j) (now (a .totals)) (a .budget) (now (a .plan)) (a .cap) (now (a .page)) (a .seen) (x .pre .1 .0) (omega (arith, (c .before .if1) .taken)) ((c .if2) .taken), (refl, (x .pre .1 .11, x .pre .1 .7)))
-
--- src/lib.rt:181:13
-node-returns-2 : (t : ℕ) → node-lts.Need-returns-2 (
-  put-reads.Asked,
-  put-reads.Learnt,
-  first-step-reads.Asked,
-  first-step-reads.Learnt,
-  price-reads.Asked,
-  price-reads.Learnt,
-  is-open-reads.Asked,
-  is-open-reads.Learnt,
-  with-shares-reads.Asked,
-  with-shares-reads.Learnt,
-  may-keep-reads.Asked,
-  may-keep-reads.Learnt,
-  is-own-reads.Asked,
-  is-own-reads.Learnt,
-  node-below t,
-  node.Post,
-) (node-at t) node.Post node-Inv-loop node-μ-loop
-node-returns-2 t c =
-    let x = c .before .before .before .before .before in
-    let a = x .args in
-    (sink-full (a .n) (a .m) (a .w) (now (a .sets)) (now (a .weights)) (now (a .lb)) (now (a .ub)) (now (a .coefs)) (now (a .values)) (now (a .arcs)) (now (a .cells)) (a .own) (a .n - a .left) (a .j) (now (a .totals)) (a .budget) (now (a .plan)) (a .cap) (now (a .page)) (a .seen) (x .pre .1 .0) (omega (arith, (c .before .before .if1) .taken)) ((c .before .if2) .left) ((c .if3) .taken), (refl, (x .pre .1 .11, x .pre .1 .7)))
-
--- src/lib.rt:183:9
-node-put-requires : (t : ℕ) → node-lts.Need-put-requires (
-  put-reads.Asked,
-  put-reads.Learnt,
-  first-step-reads.Asked,
-  first-step-reads.Learnt,
-  price-reads.Asked,
-  price-reads.Learnt,
-  is-open-reads.Asked,
-  is-open-reads.Learnt,
-  with-shares-reads.Asked,
-  with-shares-reads.Learnt,
-  may-keep-reads.Asked,
-  may-keep-reads.Learnt,
-  is-own-reads.Asked,
-  is-own-reads.Learnt,
-  node-below t,
-  node.Post,
-) (node-at t) node.Post node-Inv-loop node-μ-loop
-node-put-requires t c κs =
-    let x = c .before .before .before .before .before .before .before in
-    let a = x .args in
-    (x .pre .1 .0 .slots-few, (c .before .before .if3) .left, x .pre .1 .5, x .pre .1 .6, rw (x .pre .1 .11) (x .pre .1 .0 .slots-few))
-
--- src/lib.rt:183:9
-node-same-length : (t : ℕ) → node-lts.Need-same-length (
-  put-reads.Asked,
-  put-reads.Learnt,
-  first-step-reads.Asked,
-  first-step-reads.Learnt,
-  price-reads.Asked,
-  price-reads.Learnt,
-  is-open-reads.Asked,
-  is-open-reads.Learnt,
-  with-shares-reads.Asked,
-  with-shares-reads.Learnt,
-  may-keep-reads.Asked,
-  may-keep-reads.Learnt,
-  is-own-reads.Asked,
-  is-own-reads.Learnt,
-  node-below t,
-  node.Post,
-) (node-at t) node.Post node-Inv-loop node-μ-loop
-node-same-length t c = search needs
-
--- src/lib.rt:183:9
-node-returns-3 : (t : ℕ) → node-lts.Need-returns-3 (
-  put-reads.Asked,
-  put-reads.Learnt,
-  first-step-reads.Asked,
-  first-step-reads.Learnt,
-  price-reads.Asked,
-  price-reads.Learnt,
-  is-open-reads.Asked,
-  is-open-reads.Learnt,
-  with-shares-reads.Asked,
-  with-shares-reads.Learnt,
-  may-keep-reads.Asked,
-  may-keep-reads.Learnt,
-  is-own-reads.Asked,
-  is-own-reads.Learnt,
-  node-below t,
-  node.Post,
-) (node-at t) node.Post node-Inv-loop node-μ-loop
-node-returns-3 t c =
-    let x = c .before .before .before .before .before .before .before .before .before .before in
-    let a = x .args in
-    (sink-put (a .n) (a .m) (a .w) (now (a .sets)) (now (a .weights)) (now (a .lb)) (now (a .ub)) (now (a .coefs)) (now (a .values)) (now (a .arcs)) (now (a .cells)) (a .own) (a .n - a .left) (a .j) (now (a .totals)) (a .budget) (now (a .plan)) (a .cap) (now (a .page)) (a .seen) (x .pre .1 .0) (omega (arith, (c .before .before .before .before .before .before .before .if1) .taken)) ((c .before .before .before .before .before .before .if2) .left) _ _ ((c .before .before .put) .ensures), (refl, (x .pre .1 .11, laid-few (a .n) (a .cap) (a .seen) _ (now (a .page)) _ (take (a .n) (now (a .plan))) ((c .before .before .before .before .before .if3) .left) ((c .before .before .put) .ensures))))
-
--- src/lib.rt:185:13
+-- src/lib.rt:57:13
 node-sub-i : (t : ℕ) → node-lts.Need-sub-i (
-  put-reads.Asked,
-  put-reads.Learnt,
   first-step-reads.Asked,
   first-step-reads.Learnt,
   price-reads.Asked,
@@ -183,15 +65,15 @@ node-sub-i : (t : ℕ) → node-lts.Need-sub-i (
   may-keep-reads.Learnt,
   is-own-reads.Asked,
   is-own-reads.Learnt,
+  leaf-reads.Asked,
+  leaf-reads.Learnt,
   node-below t,
   node.Post,
 ) (node-at t) node.Post node-Inv-loop node-μ-loop
 node-sub-i t c = search needs
 
--- src/lib.rt:186:18
+-- src/lib.rt:58:18
 node-mul-weight : (t : ℕ) → node-lts.Need-mul-weight (
-  put-reads.Asked,
-  put-reads.Learnt,
   first-step-reads.Asked,
   first-step-reads.Learnt,
   price-reads.Asked,
@@ -204,15 +86,15 @@ node-mul-weight : (t : ℕ) → node-lts.Need-mul-weight (
   may-keep-reads.Learnt,
   is-own-reads.Asked,
   is-own-reads.Learnt,
+  leaf-reads.Asked,
+  leaf-reads.Learnt,
   node-below t,
   node.Post,
 ) (node-at t) node.Post node-Inv-loop node-μ-loop
 node-mul-weight t c = search needs
 
--- src/lib.rt:186:18
+-- src/lib.rt:58:18
 node-element-copy-out-weight : (t : ℕ) → node-lts.Need-element-copy-out-weight (
-  put-reads.Asked,
-  put-reads.Learnt,
   first-step-reads.Asked,
   first-step-reads.Learnt,
   price-reads.Asked,
@@ -225,15 +107,15 @@ node-element-copy-out-weight : (t : ℕ) → node-lts.Need-element-copy-out-weig
   may-keep-reads.Learnt,
   is-own-reads.Asked,
   is-own-reads.Learnt,
+  leaf-reads.Asked,
+  leaf-reads.Learnt,
   node-below t,
   node.Post,
 ) (node-at t) node.Post node-Inv-loop node-μ-loop
 node-element-copy-out-weight t c = search needs
 
--- src/lib.rt:187:15
+-- src/lib.rt:59:15
 node-mul-set : (t : ℕ) → node-lts.Need-mul-set (
-  put-reads.Asked,
-  put-reads.Learnt,
   first-step-reads.Asked,
   first-step-reads.Learnt,
   price-reads.Asked,
@@ -246,15 +128,15 @@ node-mul-set : (t : ℕ) → node-lts.Need-mul-set (
   may-keep-reads.Learnt,
   is-own-reads.Asked,
   is-own-reads.Learnt,
+  leaf-reads.Asked,
+  leaf-reads.Learnt,
   node-below t,
   node.Post,
 ) (node-at t) node.Post node-Inv-loop node-μ-loop
 node-mul-set t c = search needs
 
--- src/lib.rt:187:15
+-- src/lib.rt:59:15
 node-element-copy-out-set : (t : ℕ) → node-lts.Need-element-copy-out-set (
-  put-reads.Asked,
-  put-reads.Learnt,
   first-step-reads.Asked,
   first-step-reads.Learnt,
   price-reads.Asked,
@@ -267,15 +149,15 @@ node-element-copy-out-set : (t : ℕ) → node-lts.Need-element-copy-out-set (
   may-keep-reads.Learnt,
   is-own-reads.Asked,
   is-own-reads.Learnt,
+  leaf-reads.Asked,
+  leaf-reads.Learnt,
   node-below t,
   node.Post,
 ) (node-at t) node.Post node-Inv-loop node-μ-loop
 node-element-copy-out-set t c = search needs
 
--- src/lib.rt:188:9
+-- src/lib.rt:60:9
 node-first-step-requires : (t : ℕ) → node-lts.Need-first-step-requires (
-  put-reads.Asked,
-  put-reads.Learnt,
   first-step-reads.Asked,
   first-step-reads.Learnt,
   price-reads.Asked,
@@ -288,15 +170,15 @@ node-first-step-requires : (t : ℕ) → node-lts.Need-first-step-requires (
   may-keep-reads.Learnt,
   is-own-reads.Asked,
   is-own-reads.Learnt,
+  leaf-reads.Asked,
+  leaf-reads.Learnt,
   node-below t,
   node.Post,
 ) (node-at t) node.Post node-Inv-loop node-μ-loop
 node-first-step-requires t c κs = search needs
 
--- src/lib.rt:191:5
+-- src/lib.rt:63:5
 node-loop-holds : (t : ℕ) → node-lts.Need-loop-holds (
-  put-reads.Asked,
-  put-reads.Learnt,
   first-step-reads.Asked,
   first-step-reads.Learnt,
   price-reads.Asked,
@@ -309,22 +191,22 @@ node-loop-holds : (t : ℕ) → node-lts.Need-loop-holds (
   may-keep-reads.Learnt,
   is-own-reads.Asked,
   is-own-reads.Learnt,
+  leaf-reads.Asked,
+  leaf-reads.Learnt,
   node-below t,
   node.Post,
 ) (node-at t) node.Post node-Inv-loop node-μ-loop
 node-loop-holds t c =
-    let x = c .before .before .before .before .before .before .before in
+    let x = c .before .before .before .before .before .before in
     let a = x .args in
     let g = x .pre .1 .0 in
-    let some = (c .before .before .before .before .if1) .left in
+    let some = x .pre .1 .1 in
     let i = a .n - a .left in
-    let below : i < a .n = omega (arith, x .pre .1 .1) in
-    (refl, x .pre .1 .11, refl, (λ e. refl), x .pre .1 .7, rw (toZ-ofZ (x .fits .budget)) (going-begins (a .n) (a .m) (a .w) (now (a .sets)) (now (a .weights)) (now (a .lb)) (now (a .ub)) (now (a .coefs)) (now (a .values)) (now (a .arcs)) (now (a .cells)) (a .own) (a .n - a .left) (a .j) (now (a .totals)) (a .budget) (now (a .plan)) (a .cap) (now (a .page)) (a .seen) g below (x .pre .1 .10) (x .pre .1 .11) _ ((c .first-step) .ensures)), omega arith)
+    let below : i < a .n = omega (arith, x .pre .1 .2) in
+    (refl, x .pre .1 .12, refl, (λ e. refl), x .pre .1 .8, rw (toZ-ofZ (x .fits .budget)) (going-begins (a .n) (a .m) (a .w) (now (a .sets)) (now (a .weights)) (now (a .lb)) (now (a .ub)) (now (a .coefs)) (now (a .values)) (now (a .arcs)) (now (a .cells)) (a .own) (a .n - a .left) (a .j) (now (a .totals)) (a .budget) (now (a .plan)) (a .cap) (now (a .page)) (a .seen) g below (x .pre .1 .11) (x .pre .1 .12) _ ((c .first-step) .ensures)), omega arith)
 
--- src/lib.rt:193:13
-node-same-length-2 : (t : ℕ) → node-lts.Need-same-length-2 (
-  put-reads.Asked,
-  put-reads.Learnt,
+-- src/lib.rt:65:13
+node-same-length : (t : ℕ) → node-lts.Need-same-length (
   first-step-reads.Asked,
   first-step-reads.Learnt,
   price-reads.Asked,
@@ -337,15 +219,15 @@ node-same-length-2 : (t : ℕ) → node-lts.Need-same-length-2 (
   may-keep-reads.Learnt,
   is-own-reads.Asked,
   is-own-reads.Learnt,
+  leaf-reads.Asked,
+  leaf-reads.Learnt,
   node-below t,
   node.Post,
 ) (node-at t) node.Post node-Inv-loop node-μ-loop
-node-same-length-2 t c = search needs
+node-same-length t c = search needs
 
--- src/lib.rt:193:13
-node-returns-4 : (t : ℕ) → node-lts.Need-returns-4 (
-  put-reads.Asked,
-  put-reads.Learnt,
+-- src/lib.rt:65:13
+node-returns : (t : ℕ) → node-lts.Need-returns (
   first-step-reads.Asked,
   first-step-reads.Learnt,
   price-reads.Asked,
@@ -358,23 +240,23 @@ node-returns-4 : (t : ℕ) → node-lts.Need-returns-4 (
   may-keep-reads.Learnt,
   is-own-reads.Asked,
   is-own-reads.Learnt,
+  leaf-reads.Asked,
+  leaf-reads.Learnt,
   node-below t,
   node.Post,
 ) (node-at t) node.Post node-Inv-loop node-μ-loop
-node-returns-4 t c =
-    let x = c .before .before .before .before .before .before .before .before .before .before in
+node-returns t c =
+    let x = c .before .before .before .before .before .before .before .before .before in
     let a = x .args in
     let g = x .pre .1 .0 in
-    let some = (c .before .before .before .before .before .before .before .if1) .left in
+    let some = x .pre .1 .1 in
     let i = a .n - a .left in
-    let below : i < a .n = omega (arith, x .pre .1 .1) in
+    let below : i < a .n = omega (arith, x .pre .1 .2) in
     let l = (c .before .before .loop) in
-    (rw (toZ-ofZ (x .fits .budget)) at (going-full (a .n) (a .m) (a .w) (now (a .sets)) (now (a .weights)) (now (a .lb)) (now (a .ub)) (now (a .coefs)) (now (a .values)) (now (a .arcs)) (now (a .cells)) (a .own) (a .n - a .left) (a .j) (now (a .totals)) (back (a .budget)) (now (a .plan)) (a .cap) (now (a .page)) (a .seen) (l .page) (l .t) (l .v) ((c .if4) .taken) (l .inv .5)), (l .inv .2, (l .inv .1, l .inv .4)))
+    (rw (toZ-ofZ (x .fits .budget)) at (going-full (a .n) (a .m) (a .w) (now (a .sets)) (now (a .weights)) (now (a .lb)) (now (a .ub)) (now (a .coefs)) (now (a .values)) (now (a .arcs)) (now (a .cells)) (a .own) (a .n - a .left) (a .j) (now (a .totals)) (back (a .budget)) (now (a .plan)) (a .cap) (now (a .page)) (a .seen) (l .page) (l .t) (l .v) ((c .if1) .taken) (l .inv .5)), (l .inv .2, (l .inv .1, l .inv .4)))
 
--- src/lib.rt:195:23
+-- src/lib.rt:67:23
 node-mul-b : (t : ℕ) → node-lts.Need-mul-b (
-  put-reads.Asked,
-  put-reads.Learnt,
   first-step-reads.Asked,
   first-step-reads.Learnt,
   price-reads.Asked,
@@ -387,22 +269,22 @@ node-mul-b : (t : ℕ) → node-lts.Need-mul-b (
   may-keep-reads.Learnt,
   is-own-reads.Asked,
   is-own-reads.Learnt,
+  leaf-reads.Asked,
+  leaf-reads.Learnt,
   node-below t,
   node.Post,
 ) (node-at t) node.Post node-Inv-loop node-μ-loop
 node-mul-b t c =
-    let x = c .before .before .before .before .before .before .before .before .before .before in
+    let x = c .before .before .before .before .before .before .before .before .before in
     let a = x .args in
     let g = x .pre .1 .0 in
-    let some = (c .before .before .before .before .before .before .before .if1) .left in
+    let some = x .pre .1 .1 in
     let i = a .n - a .left in
-    let below : i < a .n = omega (arith, x .pre .1 .1) in
+    let below : i < a .n = omega (arith, x .pre .1 .2) in
     omega (arith, row-few g i (omega arith))
 
--- src/lib.rt:195:23
+-- src/lib.rt:67:23
 node-add-b : (t : ℕ) → node-lts.Need-add-b (
-  put-reads.Asked,
-  put-reads.Learnt,
   first-step-reads.Asked,
   first-step-reads.Learnt,
   price-reads.Asked,
@@ -415,22 +297,22 @@ node-add-b : (t : ℕ) → node-lts.Need-add-b (
   may-keep-reads.Learnt,
   is-own-reads.Asked,
   is-own-reads.Learnt,
+  leaf-reads.Asked,
+  leaf-reads.Learnt,
   node-below t,
   node.Post,
 ) (node-at t) node.Post node-Inv-loop node-μ-loop
 node-add-b t c =
-    let x = c .before .before .before .before .before .before .before .before .before .before in
+    let x = c .before .before .before .before .before .before .before .before .before in
     let a = x .args in
     let g = x .pre .1 .0 in
-    let some = (c .before .before .before .before .before .before .before .if1) .left in
+    let some = x .pre .1 .1 in
     let i = a .n - a .left in
-    let below : i < a .n = omega (arith, x .pre .1 .1) in
-    omega (arith, row-few g i (omega arith), x .pre .1 .2, g .nodes-few)
+    let below : i < a .n = omega (arith, x .pre .1 .2) in
+    omega (arith, row-few g i (omega arith), x .pre .1 .3, g .nodes-few)
 
--- src/lib.rt:195:22
+-- src/lib.rt:67:22
 node-mul-b-2 : (t : ℕ) → node-lts.Need-mul-b-2 (
-  put-reads.Asked,
-  put-reads.Learnt,
   first-step-reads.Asked,
   first-step-reads.Learnt,
   price-reads.Asked,
@@ -443,22 +325,22 @@ node-mul-b-2 : (t : ℕ) → node-lts.Need-mul-b-2 (
   may-keep-reads.Learnt,
   is-own-reads.Asked,
   is-own-reads.Learnt,
+  leaf-reads.Asked,
+  leaf-reads.Learnt,
   node-below t,
   node.Post,
 ) (node-at t) node.Post node-Inv-loop node-μ-loop
 node-mul-b-2 t c =
-    let x = c .before .before .before .before .before .before .before .before .before .before in
+    let x = c .before .before .before .before .before .before .before .before .before in
     let a = x .args in
     let g = x .pre .1 .0 in
-    let some = (c .before .before .before .before .before .before .before .if1) .left in
+    let some = x .pre .1 .1 in
     let i = a .n - a .left in
-    let below : i < a .n = omega (arith, x .pre .1 .1) in
-    omega (arith, row-few g i (omega arith), x .pre .1 .2, g .nodes-few)
+    let below : i < a .n = omega (arith, x .pre .1 .2) in
+    omega (arith, row-few g i (omega arith), x .pre .1 .3, g .nodes-few)
 
--- src/lib.rt:195:22
+-- src/lib.rt:67:22
 node-add-b-2 : (t : ℕ) → node-lts.Need-add-b-2 (
-  put-reads.Asked,
-  put-reads.Learnt,
   first-step-reads.Asked,
   first-step-reads.Learnt,
   price-reads.Asked,
@@ -471,22 +353,22 @@ node-add-b-2 : (t : ℕ) → node-lts.Need-add-b-2 (
   may-keep-reads.Learnt,
   is-own-reads.Asked,
   is-own-reads.Learnt,
+  leaf-reads.Asked,
+  leaf-reads.Learnt,
   node-below t,
   node.Post,
 ) (node-at t) node.Post node-Inv-loop node-μ-loop
 node-add-b-2 t c =
-    let x = c .before .before .before .before .before .before .before .before .before .before in
+    let x = c .before .before .before .before .before .before .before .before .before in
     let a = x .args in
     let g = x .pre .1 .0 in
-    let some = (c .before .before .before .before .before .before .before .if1) .left in
+    let some = x .pre .1 .1 in
     let i = a .n - a .left in
-    let below : i < a .n = omega (arith, x .pre .1 .1) in
-    omega (arith, row-few g i (omega arith), x .pre .1 .2, g .nodes-few, (c .before .loop-test) .taken)
+    let below : i < a .n = omega (arith, x .pre .1 .2) in
+    omega (arith, row-few g i (omega arith), x .pre .1 .3, g .nodes-few, (c .before .loop-test) .taken)
 
--- src/lib.rt:195:17
+-- src/lib.rt:67:17
 node-shared-slice-read-b : (t : ℕ) → node-lts.Need-shared-slice-read-b (
-  put-reads.Asked,
-  put-reads.Learnt,
   first-step-reads.Asked,
   first-step-reads.Learnt,
   price-reads.Asked,
@@ -499,22 +381,22 @@ node-shared-slice-read-b : (t : ℕ) → node-lts.Need-shared-slice-read-b (
   may-keep-reads.Learnt,
   is-own-reads.Asked,
   is-own-reads.Learnt,
+  leaf-reads.Asked,
+  leaf-reads.Learnt,
   node-below t,
   node.Post,
 ) (node-at t) node.Post node-Inv-loop node-μ-loop
 node-shared-slice-read-b t c =
-    let x = c .before .before .before .before .before .before .before .before .before .before .before in
+    let x = c .before .before .before .before .before .before .before .before .before .before in
     let a = x .args in
     let g = x .pre .1 .0 in
-    let some = (c .before .before .before .before .before .before .before .before .if1) .left in
+    let some = x .pre .1 .1 in
     let i = a .n - a .left in
-    let below : i < a .n = omega (arith, x .pre .1 .1) in
-    rw (g .bytes) (arc-place i (a .j) ((c .before .before .before .loop) .v) (a .n) (a .w) below (x .pre .1 .2) ((c .before .before .loop-test) .taken))
+    let below : i < a .n = omega (arith, x .pre .1 .2) in
+    rw (g .bytes) (arc-place i (a .j) ((c .before .before .before .loop) .v) (a .n) (a .w) below (x .pre .1 .3) ((c .before .before .loop-test) .taken))
 
--- src/lib.rt:195:17
+-- src/lib.rt:67:17
 node-cast-b : (t : ℕ) → node-lts.Need-cast-b (
-  put-reads.Asked,
-  put-reads.Learnt,
   first-step-reads.Asked,
   first-step-reads.Learnt,
   price-reads.Asked,
@@ -527,25 +409,25 @@ node-cast-b : (t : ℕ) → node-lts.Need-cast-b (
   may-keep-reads.Learnt,
   is-own-reads.Asked,
   is-own-reads.Learnt,
+  leaf-reads.Asked,
+  leaf-reads.Learnt,
   node-below t,
   node.Post,
 ) (node-at t) node.Post node-Inv-loop node-μ-loop
 node-cast-b t c =
-    let x = c .before .before .before .before .before .before .before .before .before .before .before in
+    let x = c .before .before .before .before .before .before .before .before .before .before in
     let a = x .args in
     let g = x .pre .1 .0 in
-    let some = (c .before .before .before .before .before .before .before .before .if1) .left in
+    let some = x .pre .1 .1 in
     let i = a .n - a .left in
-    let below : i < a .n = omega (arith, x .pre .1 .1) in
+    let below : i < a .n = omega (arith, x .pre .1 .2) in
     let v = (c .before .before .before .loop) .v in
     let b = getD (now (a .arcs)) ((i * a .w + a .j) * 8 + v) 0 in
     let few = byte-few g ((i * a .w + a .j) * 8 + v) in
     omega (arith, few, g .nodes-few)
 
--- src/lib.rt:196:29
+-- src/lib.rt:68:29
 node-price-requires : (t : ℕ) → node-lts.Need-price-requires (
-  put-reads.Asked,
-  put-reads.Learnt,
   first-step-reads.Asked,
   first-step-reads.Learnt,
   price-reads.Asked,
@@ -558,22 +440,22 @@ node-price-requires : (t : ℕ) → node-lts.Need-price-requires (
   may-keep-reads.Learnt,
   is-own-reads.Asked,
   is-own-reads.Learnt,
+  leaf-reads.Asked,
+  leaf-reads.Learnt,
   node-below t,
   node.Post,
 ) (node-at t) node.Post node-Inv-loop node-μ-loop
 node-price-requires t c κs =
-    let x = c .before .before .before .before .before .before .before .before .before .before .before in
+    let x = c .before .before .before .before .before .before .before .before .before .before in
     let a = x .args in
     let g = x .pre .1 .0 in
-    let some = (c .before .before .before .before .before .before .before .before .if1) .left in
+    let some = x .pre .1 .1 in
     let i = a .n - a .left in
-    let below : i < a .n = omega (arith, x .pre .1 .1) in
+    let below : i < a .n = omega (arith, x .pre .1 .2) in
     ((c .before .before .loop-test) .taken, back-within (g .priced i below) tt)
 
--- src/lib.rt:196:20
+-- src/lib.rt:68:20
 node-sub-rest : (t : ℕ) → node-lts.Need-sub-rest (
-  put-reads.Asked,
-  put-reads.Learnt,
   first-step-reads.Asked,
   first-step-reads.Learnt,
   price-reads.Asked,
@@ -586,23 +468,23 @@ node-sub-rest : (t : ℕ) → node-lts.Need-sub-rest (
   may-keep-reads.Learnt,
   is-own-reads.Asked,
   is-own-reads.Learnt,
+  leaf-reads.Asked,
+  leaf-reads.Learnt,
   node-below t,
   node.Post,
 ) (node-at t) node.Post node-Inv-loop node-μ-loop
 node-sub-rest t c =
-    let x = c .before .before .before .before .before .before .before .before .before .before .before .before in
+    let x = c .before .before .before .before .before .before .before .before .before .before .before in
     let a = x .args in
     let g = x .pre .1 .0 in
-    let some = (c .before .before .before .before .before .before .before .before .before .if1) .left in
+    let some = x .pre .1 .1 in
     let i = a .n - a .left in
-    let below : i < a .n = omega (arith, x .pre .1 .1) in
+    let below : i < a .n = omega (arith, x .pre .1 .2) in
     let n24 = g .slots-few in
-    dif-fits (budget-small i (omega arith) (x .pre .1 .4)) (widen tt ((c .price) .ensures .1))
+    dif-fits (budget-small i (omega arith) (x .pre .1 .5)) (widen tt ((c .price) .ensures .1))
 
--- src/lib.rt:197:35
+-- src/lib.rt:69:41
 node-add-is-open : (t : ℕ) → node-lts.Need-add-is-open (
-  put-reads.Asked,
-  put-reads.Learnt,
   first-step-reads.Asked,
   first-step-reads.Learnt,
   price-reads.Asked,
@@ -615,15 +497,15 @@ node-add-is-open : (t : ℕ) → node-lts.Need-add-is-open (
   may-keep-reads.Learnt,
   is-own-reads.Asked,
   is-own-reads.Learnt,
+  leaf-reads.Asked,
+  leaf-reads.Learnt,
   node-below t,
   node.Post,
 ) (node-at t) node.Post node-Inv-loop node-μ-loop
 node-add-is-open t c = search needs
 
--- src/lib.rt:197:34
+-- src/lib.rt:69:40
 node-mul-is-open : (t : ℕ) → node-lts.Need-mul-is-open (
-  put-reads.Asked,
-  put-reads.Learnt,
   first-step-reads.Asked,
   first-step-reads.Learnt,
   price-reads.Asked,
@@ -636,22 +518,22 @@ node-mul-is-open : (t : ℕ) → node-lts.Need-mul-is-open (
   may-keep-reads.Learnt,
   is-own-reads.Asked,
   is-own-reads.Learnt,
+  leaf-reads.Asked,
+  leaf-reads.Learnt,
   node-below t,
   node.Post,
 ) (node-at t) node.Post node-Inv-loop node-μ-loop
 node-mul-is-open t c =
-    let x = c .before .before .before .before .before .before .before .before .before .before .before .before in
+    let x = c .before .before .before .before .before .before .before .before .before .before .before in
     let a = x .args in
     let g = x .pre .1 .0 in
-    let some = (c .before .before .before .before .before .before .before .before .before .if1) .left in
+    let some = x .pre .1 .1 in
     let i = a .n - a .left in
-    let below : i < a .n = omega (arith, x .pre .1 .1) in
+    let below : i < a .n = omega (arith, x .pre .1 .2) in
     omega (arith, row-few g (i + 1) (omega arith))
 
--- src/lib.rt:197:12
+-- src/lib.rt:69:12
 node-is-open-requires : (t : ℕ) → node-lts.Need-is-open-requires (
-  put-reads.Asked,
-  put-reads.Learnt,
   first-step-reads.Asked,
   first-step-reads.Learnt,
   price-reads.Asked,
@@ -664,25 +546,25 @@ node-is-open-requires : (t : ℕ) → node-lts.Need-is-open-requires (
   may-keep-reads.Learnt,
   is-own-reads.Asked,
   is-own-reads.Learnt,
+  leaf-reads.Asked,
+  leaf-reads.Learnt,
   node-below t,
   node.Post,
 ) (node-at t) node.Post node-Inv-loop node-μ-loop
 node-is-open-requires t c κs =
-    let x = c .before .before .before .before .before .before .before .before .before .before .before .before in
+    let x = c .before .before .before .before .before .before .before .before .before .before .before in
     let a = x .args in
     let g = x .pre .1 .0 in
-    let some = (c .before .before .before .before .before .before .before .before .before .if1) .left in
+    let some = x .pre .1 .1 in
     let i = a .n - a .left in
-    let below : i < a .n = omega (arith, x .pre .1 .1) in
+    let below : i < a .n = omega (arith, x .pre .1 .2) in
     let v = (c .before .before .before .before .loop) .v in
     let b = getD (now (a .arcs)) ((i * a .w + a .j) * 8 + v) 0 in
     let few = byte-few g ((i * a .w + a .j) * 8 + v) in
     (g .rules-few, omega (arith, row-few g (i + 1) (omega arith), few, g .nodes-few), cells-few g i b below few)
 
--- src/lib.rt:198:24
+-- src/lib.rt:70:24
 node-with-shares-requires : (t : ℕ) → node-lts.Need-with-shares-requires (
-  put-reads.Asked,
-  put-reads.Learnt,
   first-step-reads.Asked,
   first-step-reads.Learnt,
   price-reads.Asked,
@@ -695,23 +577,23 @@ node-with-shares-requires : (t : ℕ) → node-lts.Need-with-shares-requires (
   may-keep-reads.Learnt,
   is-own-reads.Asked,
   is-own-reads.Learnt,
+  leaf-reads.Asked,
+  leaf-reads.Learnt,
   node-below t,
   node.Post,
 ) (node-at t) node.Post node-Inv-loop node-μ-loop
 node-with-shares-requires t c κs =
-    let x = c .before .before .before .before .before .before .before .before .before .before .before .before .before .before in
+    let x = c .before .before .before .before .before .before .before .before .before .before .before .before .before in
     let a = x .args in
     let g = x .pre .1 .0 in
-    let some = (c .before .before .before .before .before .before .before .before .before .before .before .if1) .left in
+    let some = x .pre .1 .1 in
     let i = a .n - a .left in
-    let below : i < a .n = omega (arith, x .pre .1 .1) in
+    let below : i < a .n = omega (arith, x .pre .1 .2) in
     let n24 = g .slots-few in
-    (omega arith, (c .before .before .before .before .before .loop-test) .taken, g .counted, totals-small i (omega arith) (now (a .totals)) (x .pre .1 .3), x .pre .1 .8, x .pre .1 .9, x .pre .1 .10)
+    (omega arith, (c .before .before .before .before .before .loop-test) .taken, g .counted, totals-small i (omega arith) (now (a .totals)) (x .pre .1 .4), x .pre .1 .9, x .pre .1 .10, x .pre .1 .11)
 
--- src/lib.rt:199:24
+-- src/lib.rt:71:24
 node-add-at : (t : ℕ) → node-lts.Need-add-at (
-  put-reads.Asked,
-  put-reads.Learnt,
   first-step-reads.Asked,
   first-step-reads.Learnt,
   price-reads.Asked,
@@ -724,15 +606,15 @@ node-add-at : (t : ℕ) → node-lts.Need-add-at (
   may-keep-reads.Learnt,
   is-own-reads.Asked,
   is-own-reads.Learnt,
+  leaf-reads.Asked,
+  leaf-reads.Learnt,
   node-below t,
   node.Post,
 ) (node-at t) node.Post node-Inv-loop node-μ-loop
 node-add-at t c = search needs
 
--- src/lib.rt:199:23
+-- src/lib.rt:71:23
 node-mul-at : (t : ℕ) → node-lts.Need-mul-at (
-  put-reads.Asked,
-  put-reads.Learnt,
   first-step-reads.Asked,
   first-step-reads.Learnt,
   price-reads.Asked,
@@ -745,22 +627,22 @@ node-mul-at : (t : ℕ) → node-lts.Need-mul-at (
   may-keep-reads.Learnt,
   is-own-reads.Asked,
   is-own-reads.Learnt,
+  leaf-reads.Asked,
+  leaf-reads.Learnt,
   node-below t,
   node.Post,
 ) (node-at t) node.Post node-Inv-loop node-μ-loop
 node-mul-at t c =
-    let x = c .before .before .before .before .before .before .before .before .before .before .before .before .before .before .before in
+    let x = c .before .before .before .before .before .before .before .before .before .before .before .before .before .before in
     let a = x .args in
     let g = x .pre .1 .0 in
-    let some = (c .before .before .before .before .before .before .before .before .before .before .before .before .if1) .left in
+    let some = x .pre .1 .1 in
     let i = a .n - a .left in
-    let below : i < a .n = omega (arith, x .pre .1 .1) in
+    let below : i < a .n = omega (arith, x .pre .1 .2) in
     omega (arith, row-few g (i + 1) (omega arith))
 
--- src/lib.rt:199:23
+-- src/lib.rt:71:23
 node-add-at-2 : (t : ℕ) → node-lts.Need-add-at-2 (
-  put-reads.Asked,
-  put-reads.Learnt,
   first-step-reads.Asked,
   first-step-reads.Learnt,
   price-reads.Asked,
@@ -773,25 +655,25 @@ node-add-at-2 : (t : ℕ) → node-lts.Need-add-at-2 (
   may-keep-reads.Learnt,
   is-own-reads.Asked,
   is-own-reads.Learnt,
+  leaf-reads.Asked,
+  leaf-reads.Learnt,
   node-below t,
   node.Post,
 ) (node-at t) node.Post node-Inv-loop node-μ-loop
 node-add-at-2 t c =
-    let x = c .before .before .before .before .before .before .before .before .before .before .before .before .before .before .before in
+    let x = c .before .before .before .before .before .before .before .before .before .before .before .before .before .before in
     let a = x .args in
     let g = x .pre .1 .0 in
-    let some = (c .before .before .before .before .before .before .before .before .before .before .before .before .if1) .left in
+    let some = x .pre .1 .1 in
     let i = a .n - a .left in
-    let below : i < a .n = omega (arith, x .pre .1 .1) in
+    let below : i < a .n = omega (arith, x .pre .1 .2) in
     let v = (c .before .before .before .before .before .before .before .loop) .v in
     let b = getD (now (a .arcs)) ((i * a .w + a .j) * 8 + v) 0 in
     let few = byte-few g ((i * a .w + a .j) * 8 + v) in
     omega (arith, row-few g (i + 1) (omega arith), few, g .nodes-few)
 
--- src/lib.rt:199:23
+-- src/lib.rt:71:23
 node-sub-at : (t : ℕ) → node-lts.Need-sub-at (
-  put-reads.Asked,
-  put-reads.Learnt,
   first-step-reads.Asked,
   first-step-reads.Learnt,
   price-reads.Asked,
@@ -804,27 +686,27 @@ node-sub-at : (t : ℕ) → node-lts.Need-sub-at (
   may-keep-reads.Learnt,
   is-own-reads.Asked,
   is-own-reads.Learnt,
+  leaf-reads.Asked,
+  leaf-reads.Learnt,
   node-below t,
   node.Post,
 ) (node-at t) node.Post node-Inv-loop node-μ-loop
 node-sub-at t c =
-    let x = c .before .before .before .before .before .before .before .before .before .before .before .before .before .before .before in
+    let x = c .before .before .before .before .before .before .before .before .before .before .before .before .before .before in
     let a = x .args in
     let g = x .pre .1 .0 in
-    let some = (c .before .before .before .before .before .before .before .before .before .before .before .before .if1) .left in
+    let some = x .pre .1 .1 in
     let i = a .n - a .left in
-    let below : i < a .n = omega (arith, x .pre .1 .1) in
+    let below : i < a .n = omega (arith, x .pre .1 .2) in
     let v = (c .before .before .before .before .before .before .before .loop) .v in
     let b = getD (now (a .arcs)) ((i * a .w + a .j) * 8 + v) 0 in
     let few = byte-few g ((i * a .w + a .j) * 8 + v) in
-    let led = sym ((c .before .before .is-open) .ensures) ∙ (c .before .if5) .taken in
+    let led = sym ((c .before .before .is-open) .ensures) ∙ (c .before .if2) .taken in
     let one : 0 < b = open-some (a .m) (getD (now (a .sets)) i 0) v b ((i + 1) * a .w) (now (a .cells)) _ led in
     omega (arith, one)
 
--- src/lib.rt:199:47
+-- src/lib.rt:71:47
 node-mul-at-2 : (t : ℕ) → node-lts.Need-mul-at-2 (
-  put-reads.Asked,
-  put-reads.Learnt,
   first-step-reads.Asked,
   first-step-reads.Learnt,
   price-reads.Asked,
@@ -837,15 +719,15 @@ node-mul-at-2 : (t : ℕ) → node-lts.Need-mul-at-2 (
   may-keep-reads.Learnt,
   is-own-reads.Asked,
   is-own-reads.Learnt,
+  leaf-reads.Asked,
+  leaf-reads.Learnt,
   node-below t,
   node.Post,
 ) (node-at t) node.Post node-Inv-loop node-μ-loop
 node-mul-at-2 t c = search needs
 
--- src/lib.rt:199:47
+-- src/lib.rt:71:47
 node-add-at-3 : (t : ℕ) → node-lts.Need-add-at-3 (
-  put-reads.Asked,
-  put-reads.Learnt,
   first-step-reads.Asked,
   first-step-reads.Learnt,
   price-reads.Asked,
@@ -858,15 +740,15 @@ node-add-at-3 : (t : ℕ) → node-lts.Need-add-at-3 (
   may-keep-reads.Learnt,
   is-own-reads.Asked,
   is-own-reads.Learnt,
+  leaf-reads.Asked,
+  leaf-reads.Learnt,
   node-below t,
   node.Post,
 ) (node-at t) node.Post node-Inv-loop node-μ-loop
 node-add-at-3 t c = search needs
 
--- src/lib.rt:199:22
+-- src/lib.rt:71:22
 node-mul-at-3 : (t : ℕ) → node-lts.Need-mul-at-3 (
-  put-reads.Asked,
-  put-reads.Learnt,
   first-step-reads.Asked,
   first-step-reads.Learnt,
   price-reads.Asked,
@@ -879,27 +761,27 @@ node-mul-at-3 : (t : ℕ) → node-lts.Need-mul-at-3 (
   may-keep-reads.Learnt,
   is-own-reads.Asked,
   is-own-reads.Learnt,
+  leaf-reads.Asked,
+  leaf-reads.Learnt,
   node-below t,
   node.Post,
 ) (node-at t) node.Post node-Inv-loop node-μ-loop
 node-mul-at-3 t c =
-    let x = c .before .before .before .before .before .before .before .before .before .before .before .before .before .before .before in
+    let x = c .before .before .before .before .before .before .before .before .before .before .before .before .before .before in
     let a = x .args in
     let g = x .pre .1 .0 in
-    let some = (c .before .before .before .before .before .before .before .before .before .before .before .before .if1) .left in
+    let some = x .pre .1 .1 in
     let i = a .n - a .left in
-    let below : i < a .n = omega (arith, x .pre .1 .1) in
+    let below : i < a .n = omega (arith, x .pre .1 .2) in
     let v = (c .before .before .before .before .before .before .before .loop) .v in
     let b = getD (now (a .arcs)) ((i * a .w + a .j) * 8 + v) 0 in
     let few = byte-few g ((i * a .w + a .j) * 8 + v) in
-    let led = sym ((c .before .before .is-open) .ensures) ∙ (c .before .if5) .taken in
+    let led = sym ((c .before .before .is-open) .ensures) ∙ (c .before .if2) .taken in
     let one : 0 < b = open-some (a .m) (getD (now (a .sets)) i 0) v b ((i + 1) * a .w) (now (a .cells)) _ led in
     omega (arith, cells-small g i b below few, child-end ((i + 1) * a .w + b) (a .m) (omega (arith, one)))
 
--- src/lib.rt:200:16
+-- src/lib.rt:72:16
 node-may-keep-requires : (t : ℕ) → node-lts.Need-may-keep-requires (
-  put-reads.Asked,
-  put-reads.Learnt,
   first-step-reads.Asked,
   first-step-reads.Learnt,
   price-reads.Asked,
@@ -912,28 +794,28 @@ node-may-keep-requires : (t : ℕ) → node-lts.Need-may-keep-requires (
   may-keep-reads.Learnt,
   is-own-reads.Asked,
   is-own-reads.Learnt,
+  leaf-reads.Asked,
+  leaf-reads.Learnt,
   node-below t,
   node.Post,
 ) (node-at t) node.Post node-Inv-loop node-μ-loop
 node-may-keep-requires t c κs =
-    let x = c .before .before .before .before .before .before .before .before .before .before .before .before .before .before .before .before in
+    let x = c .before .before .before .before .before .before .before .before .before .before .before .before .before .before .before in
     let a = x .args in
     let g = x .pre .1 .0 in
-    let some = (c .before .before .before .before .before .before .before .before .before .before .before .before .before .if1) .left in
+    let some = x .pre .1 .1 in
     let i = a .n - a .left in
-    let below : i < a .n = omega (arith, x .pre .1 .1) in
+    let below : i < a .n = omega (arith, x .pre .1 .2) in
     let v = (c .before .before .before .before .before .before .before .before .loop) .v in
     let b = getD (now (a .arcs)) ((i * a .w + a .j) * 8 + v) 0 in
     let few = byte-few g ((i * a .w + a .j) * 8 + v) in
-    let led = sym ((c .before .before .before .is-open) .ensures) ∙ (c .before .before .if5) .taken in
+    let led = sym ((c .before .before .before .is-open) .ensures) ∙ (c .before .before .if2) .taken in
     let one : 0 < b = open-some (a .m) (getD (now (a .sets)) i 0) v b ((i + 1) * a .w) (now (a .cells)) _ led in
     let n24 = g .slots-few in
-    (g .rules-few, omega (arith, cells-few g i b below few, child-end ((i + 1) * a .w + b) (a .m) (omega (arith, one))), g .inside, rw ((c .before .with-shares) .ensures) (totals-small (suc i) (omega arith) (withShares (now (a .coefs)) (now (a .values)) i v (now (a .totals))) (shares-within i v ((c .before .before .before .before .before .before .before .loop-test) .taken) (now (a .coefs)) (now (a .values)) (now (a .totals)) (x .pre .1 .3) (g .counted))))
+    (g .rules-few, omega (arith, cells-few g i b below few, child-end ((i + 1) * a .w + b) (a .m) (omega (arith, one))), g .inside, rw ((c .before .with-shares) .ensures) (totals-small (suc i) (omega arith) (withShares (now (a .coefs)) (now (a .values)) i v (now (a .totals))) (shares-within i v ((c .before .before .before .before .before .before .before .loop-test) .taken) (now (a .coefs)) (now (a .values)) (now (a .totals)) (x .pre .1 .4) (g .counted))))
 
--- src/lib.rt:201:27
+-- src/lib.rt:73:27
 node-cast-plan : (t : ℕ) → node-lts.Need-cast-plan (
-  put-reads.Asked,
-  put-reads.Learnt,
   first-step-reads.Asked,
   first-step-reads.Learnt,
   price-reads.Asked,
@@ -946,15 +828,15 @@ node-cast-plan : (t : ℕ) → node-lts.Need-cast-plan (
   may-keep-reads.Learnt,
   is-own-reads.Asked,
   is-own-reads.Learnt,
+  leaf-reads.Asked,
+  leaf-reads.Learnt,
   node-below t,
   node.Post,
 ) (node-at t) node.Post node-Inv-loop node-μ-loop
 node-cast-plan t c = search needs
 
--- src/lib.rt:201:17
+-- src/lib.rt:73:17
 node-element-write-plan : (t : ℕ) → node-lts.Need-element-write-plan (
-  put-reads.Asked,
-  put-reads.Learnt,
   first-step-reads.Asked,
   first-step-reads.Learnt,
   price-reads.Asked,
@@ -967,23 +849,23 @@ node-element-write-plan : (t : ℕ) → node-lts.Need-element-write-plan (
   may-keep-reads.Learnt,
   is-own-reads.Asked,
   is-own-reads.Learnt,
+  leaf-reads.Asked,
+  leaf-reads.Learnt,
   node-below t,
   node.Post,
 ) (node-at t) node.Post node-Inv-loop node-μ-loop
 node-element-write-plan t c =
-    let x = c .before .before .before .before .before .before .before .before .before .before .before .before .before .before .before .before .before .before in
+    let x = c .before .before .before .before .before .before .before .before .before .before .before .before .before .before .before .before .before in
     let a = x .args in
     let g = x .pre .1 .0 in
-    let some = (c .before .before .before .before .before .before .before .before .before .before .before .before .before .before .before .if1) .left in
+    let some = x .pre .1 .1 in
     let i = a .n - a .left in
-    let below : i < a .n = omega (arith, x .pre .1 .1) in
+    let below : i < a .n = omega (arith, x .pre .1 .2) in
     let n24 = g .slots-few in
     omega (arith, below)
 
--- src/lib.rt:214:21
+-- src/lib.rt:74:21
 node-is-own-requires : (t : ℕ) → node-lts.Need-is-own-requires (
-  put-reads.Asked,
-  put-reads.Learnt,
   first-step-reads.Asked,
   first-step-reads.Learnt,
   price-reads.Asked,
@@ -996,15 +878,15 @@ node-is-own-requires : (t : ℕ) → node-lts.Need-is-own-requires (
   may-keep-reads.Learnt,
   is-own-reads.Asked,
   is-own-reads.Learnt,
+  leaf-reads.Asked,
+  leaf-reads.Learnt,
   node-below t,
   node.Post,
 ) (node-at t) node.Post node-Inv-loop node-μ-loop
 node-is-own-requires t c κs = search needs
 
--- src/lib.rt:215:21
-node-sub-node : (t : ℕ) → node-lts.Need-sub-node (
-  put-reads.Asked,
-  put-reads.Learnt,
+-- src/lib.rt:76:21
+node-leaf-requires : (t : ℕ) → node-lts.Need-leaf-requires (
   first-step-reads.Asked,
   first-step-reads.Learnt,
   price-reads.Asked,
@@ -1017,15 +899,23 @@ node-sub-node : (t : ℕ) → node-lts.Need-sub-node (
   may-keep-reads.Learnt,
   is-own-reads.Asked,
   is-own-reads.Learnt,
+  leaf-reads.Asked,
+  leaf-reads.Learnt,
   node-below t,
   node.Post,
 ) (node-at t) node.Post node-Inv-loop node-μ-loop
-node-sub-node t c = search needs
+node-leaf-requires t c κs =
+    let x = c .before .before .before .before .before .before .before .before .before .before .before .before .before .before .before .before .before .before .before .before .before in
+    let a = x .args in
+    let g = x .pre .1 .0 in
+    let some = x .pre .1 .1 in
+    let i = a .n - a .left in
+    let below : i < a .n = omega (arith, x .pre .1 .2) in
+    let l = (c .before .before .before .before .before .before .before .before .before .before .before .before .before .before .loop) in
+    (g .slots-few, rw (l .inv .0) (x .pre .1 .6), rw (l .inv .0) (x .pre .1 .7), rw (length-set (l .plan) i ((c .before .before .before .before .before .before .before .before .before .before .before .before .before .before .loop) .v), l .inv .1) (g .slots-few), l .inv .4)
 
--- src/lib.rt:216:21
-node-sub-node-2 : (t : ℕ) → node-lts.Need-sub-node-2 (
-  put-reads.Asked,
-  put-reads.Learnt,
+-- src/lib.rt:91:25
+node-sub-node : (t : ℕ) → node-lts.Need-sub-node (
   first-step-reads.Asked,
   first-step-reads.Learnt,
   price-reads.Asked,
@@ -1038,6 +928,36 @@ node-sub-node-2 : (t : ℕ) → node-lts.Need-sub-node-2 (
   may-keep-reads.Learnt,
   is-own-reads.Asked,
   is-own-reads.Learnt,
+  leaf-reads.Asked,
+  leaf-reads.Learnt,
+  node-below t,
+  node.Post,
+) (node-at t) node.Post node-Inv-loop node-μ-loop
+node-sub-node t c =
+    let x = c .before .before .before .before .before .before .before .before .before .before .before .before .before .before .before .before .before .before .before in
+    let a = x .args in
+    let g = x .pre .1 .0 in
+    let some = x .pre .1 .1 in
+    let i = a .n - a .left in
+    let below : i < a .n = omega (arith, x .pre .1 .2) in
+    omega (arith, x .pre .1 .1)
+
+-- src/lib.rt:92:25
+node-sub-node-2 : (t : ℕ) → node-lts.Need-sub-node-2 (
+  first-step-reads.Asked,
+  first-step-reads.Learnt,
+  price-reads.Asked,
+  price-reads.Learnt,
+  is-open-reads.Asked,
+  is-open-reads.Learnt,
+  with-shares-reads.Asked,
+  with-shares-reads.Learnt,
+  may-keep-reads.Asked,
+  may-keep-reads.Learnt,
+  is-own-reads.Asked,
+  is-own-reads.Learnt,
+  leaf-reads.Asked,
+  leaf-reads.Learnt,
   node-below t,
   node.Post,
 ) (node-at t) node.Post node-Inv-loop node-μ-loop
@@ -1045,20 +965,18 @@ node-sub-node-2 t c =
     let x = c .before .before .before .before .before .before .before .before .before .before .before .before .before .before .before .before .before .before .before in
     let a = x .args in
     let g = x .pre .1 .0 in
-    let some = (c .before .before .before .before .before .before .before .before .before .before .before .before .before .before .before .before .if1) .left in
+    let some = x .pre .1 .1 in
     let i = a .n - a .left in
-    let below : i < a .n = omega (arith, x .pre .1 .1) in
-    let v = (c .before .before .before .before .before .before .before .before .before .before .before .loop) .v in
+    let below : i < a .n = omega (arith, x .pre .1 .2) in
+    let v = (c .before .before .before .before .before .before .before .before .before .before .before .before .loop) .v in
     let b = getD (now (a .arcs)) ((i * a .w + a .j) * 8 + v) 0 in
     let few = byte-few g ((i * a .w + a .j) * 8 + v) in
-    let led = sym ((c .before .before .before .before .before .before .is-open) .ensures) ∙ (c .before .before .before .before .before .if5) .taken in
+    let led = sym ((c .before .before .before .before .before .before .before .is-open) .ensures) ∙ (c .before .before .before .before .before .before .if2) .taken in
     let one : 0 < b = open-some (a .m) (getD (now (a .sets)) i 0) v b ((i + 1) * a .w) (now (a .cells)) _ led in
     omega (arith, one)
 
--- src/lib.rt:202:17
+-- src/lib.rt:78:21
 node-node-requires : (t : ℕ) → node-lts.Need-node-requires (
-  put-reads.Asked,
-  put-reads.Learnt,
   first-step-reads.Asked,
   first-step-reads.Learnt,
   price-reads.Asked,
@@ -1071,6 +989,8 @@ node-node-requires : (t : ℕ) → node-lts.Need-node-requires (
   may-keep-reads.Learnt,
   is-own-reads.Asked,
   is-own-reads.Learnt,
+  leaf-reads.Asked,
+  leaf-reads.Learnt,
   node-below t,
   node.Post,
 ) (node-at t) node.Post node-Inv-loop node-μ-loop
@@ -1078,26 +998,24 @@ node-node-requires t c κs =
     let x = c .before .before .before .before .before .before .before .before .before .before .before .before .before .before .before .before .before .before .before .before .before .before in
     let a = x .args in
     let g = x .pre .1 .0 in
-    let some = (c .before .before .before .before .before .before .before .before .before .before .before .before .before .before .before .before .before .before .before .if1) .left in
+    let some = x .pre .1 .1 in
     let i = a .n - a .left in
-    let below : i < a .n = omega (arith, x .pre .1 .1) in
-    let v = (c .before .before .before .before .before .before .before .before .before .before .before .before .before .before .loop) .v in
+    let below : i < a .n = omega (arith, x .pre .1 .2) in
+    let v = (c .before .before .before .before .before .before .before .before .before .before .before .before .before .before .before .loop) .v in
     let b = getD (now (a .arcs)) ((i * a .w + a .j) * 8 + v) 0 in
     let few = byte-few g ((i * a .w + a .j) * 8 + v) in
-    let led = sym ((c .before .before .before .before .before .before .before .before .before .is-open) .ensures) ∙ (c .before .before .before .before .before .before .before .before .if5) .taken in
+    let led = sym ((c .before .before .before .before .before .before .before .before .before .before .is-open) .ensures) ∙ (c .before .before .before .before .before .before .before .before .before .if2) .taken in
     let one : 0 < b = open-some (a .m) (getD (now (a .sets)) i 0) v b ((i + 1) * a .w) (now (a .cells)) _ led in
     let n24 = g .slots-few in
     let z = a .budget in
     let is = toZ-ofZ (x .fits .budget) in
-    let e1 = dif-back (budget-small i (omega arith) (x .pre .1 .4)) (widen tt ((c .before .before .before .before .before .before .before .before .before .before .price) .ensures .1)) ∙ ap (λ y. z -ℤ y) ((c .before .before .before .before .before .before .before .before .before .before .price) .ensures .0 ∙ ap (λ y. y *ℤ pos v) (back-is (g .priced i below) tt)) in
-    let l = (c .before .before .before .before .before .before .before .before .before .before .before .before .before .before .loop) in
-    let count = one-less (a .n) (a .left) (x .pre .1 .1) some in
-    (omega (arith, x .pre .0, some), (g, omega (arith, x .pre .1 .1), omega (arith, few, one), rw (count, (c .before .before .before .before .before .before .before .with-shares) .ensures) (shares-within i v ((c .before .before .before .before .before .before .before .before .before .before .before .before .before .loop-test) .taken) (now (a .coefs)) (now (a .values)) (now (a .totals)) (x .pre .1 .3) (g .counted)), rw (count, dif-back (budget-small i (omega arith) (x .pre .1 .4)) (widen tt ((c .before .before .before .before .before .before .before .before .before .before .price) .ensures .1))) (rest-within i (x .pre .1 .4) ((c .before .before .before .before .before .before .before .before .before .before .price) .ensures .1)), rw (l .inv .0) (x .pre .1 .5), rw (l .inv .0) (x .pre .1 .6), l .inv .4, x .pre .1 .8, x .pre .1 .9, rw ((c .before .before .before .before .before .before .before .with-shares) .ensures) (shares-long i v (omega arith) (now (a .coefs)) (now (a .values)) (now (a .totals)) (x .pre .1 .8) (x .pre .1 .9) (x .pre .1 .10)), length-set (l .plan) i v ∙ l .inv .1))
+    let e1 = dif-back (budget-small i (omega arith) (x .pre .1 .5)) (widen tt ((c .before .before .before .before .before .before .before .before .before .before .before .price) .ensures .1)) ∙ ap (λ y. z -ℤ y) ((c .before .before .before .before .before .before .before .before .before .before .before .price) .ensures .0 ∙ ap (λ y. y *ℤ pos v) (back-is (g .priced i below) tt)) in
+    let l = (c .before .before .before .before .before .before .before .before .before .before .before .before .before .before .before .loop) in
+    let count = one-less (a .n) (a .left) (x .pre .1 .2) (λ e. omega arith) in
+    (omega (arith, x .pre .0, some), (g, omega (arith, some, (c .before .before .before .if4) .left), omega (arith, x .pre .1 .2), omega (arith, few, one), rw (count, (c .before .before .before .before .before .before .before .before .with-shares) .ensures) (shares-within i v ((c .before .before .before .before .before .before .before .before .before .before .before .before .before .before .loop-test) .taken) (now (a .coefs)) (now (a .values)) (now (a .totals)) (x .pre .1 .4) (g .counted)), rw (count, dif-back (budget-small i (omega arith) (x .pre .1 .5)) (widen tt ((c .before .before .before .before .before .before .before .before .before .before .before .price) .ensures .1))) (rest-within i (x .pre .1 .5) ((c .before .before .before .before .before .before .before .before .before .before .before .price) .ensures .1)), rw (l .inv .0) (x .pre .1 .6), rw (l .inv .0) (x .pre .1 .7), l .inv .4, x .pre .1 .9, x .pre .1 .10, rw ((c .before .before .before .before .before .before .before .before .with-shares) .ensures) (shares-long i v (omega arith) (now (a .coefs)) (now (a .values)) (now (a .totals)) (x .pre .1 .9) (x .pre .1 .10) (x .pre .1 .11)), length-set (l .plan) i v ∙ l .inv .1))
 
--- src/lib.rt:226:9
+-- src/lib.rt:103:9
 node-add-v : (t : ℕ) → node-lts.Need-add-v (
-  put-reads.Asked,
-  put-reads.Learnt,
   first-step-reads.Asked,
   first-step-reads.Learnt,
   price-reads.Asked,
@@ -1110,15 +1028,15 @@ node-add-v : (t : ℕ) → node-lts.Need-add-v (
   may-keep-reads.Learnt,
   is-own-reads.Asked,
   is-own-reads.Learnt,
+  leaf-reads.Asked,
+  leaf-reads.Learnt,
   node-below t,
   node.Post,
 ) (node-at t) node.Post node-Inv-loop node-μ-loop
 node-add-v t c = search needs
 
--- src/lib.rt:191:5
+-- src/lib.rt:63:5
 node-loop-less : (t : ℕ) → node-lts.Need-loop-less (
-  put-reads.Asked,
-  put-reads.Learnt,
   first-step-reads.Asked,
   first-step-reads.Learnt,
   price-reads.Asked,
@@ -1131,15 +1049,15 @@ node-loop-less : (t : ℕ) → node-lts.Need-loop-less (
   may-keep-reads.Learnt,
   is-own-reads.Asked,
   is-own-reads.Learnt,
+  leaf-reads.Asked,
+  leaf-reads.Learnt,
   node-below t,
   node.Post,
 ) (node-at t) node.Post node-Inv-loop node-μ-loop
 node-loop-less t c = search needs
 
--- src/lib.rt:191:5
+-- src/lib.rt:63:5
 node-loop-again : (t : ℕ) → node-lts.Need-loop-again (
-  put-reads.Asked,
-  put-reads.Learnt,
   first-step-reads.Asked,
   first-step-reads.Learnt,
   price-reads.Asked,
@@ -1152,23 +1070,25 @@ node-loop-again : (t : ℕ) → node-lts.Need-loop-again (
   may-keep-reads.Learnt,
   is-own-reads.Asked,
   is-own-reads.Learnt,
+  leaf-reads.Asked,
+  leaf-reads.Learnt,
   node-below t,
   node.Post,
 ) (node-at t) node.Post node-Inv-loop node-μ-loop
 node-loop-again t c =
-    let x = c .before .before .before .before .before .before .before .before .before .before .before .before .before .before in
+    let x = c .before .before .before .before .before .before .before .before .before .before .before .before .before in
     let a = x .args in
     let g = x .pre .1 .0 in
-    let some = (c .before .before .before .before .before .before .before .before .before .before .before .if1) .left in
+    let some = x .pre .1 .1 in
     let i = a .n - a .left in
-    let below : i < a .n = omega (arith, x .pre .1 .1) in
+    let below : i < a .n = omega (arith, x .pre .1 .2) in
     let v = (c .before .before .before .before .before .before .loop) .v in
     let b = getD (now (a .arcs)) ((i * a .w + a .j) * 8 + v) 0 in
     let few = byte-few g ((i * a .w + a .j) * 8 + v) in
     let n24 = g .slots-few in
     let z = a .budget in
     let is = toZ-ofZ (x .fits .budget) in
-    let e1 = dif-back (budget-small i (omega arith) (x .pre .1 .4)) (widen tt ((c .before .before .price) .ensures .1)) ∙ ap (λ y. z -ℤ y) ((c .before .before .price) .ensures .0 ∙ ap (λ y. y *ℤ pos v) (back-is (g .priced i below) tt)) in
+    let e1 = dif-back (budget-small i (omega arith) (x .pre .1 .5)) (widen tt ((c .before .before .price) .ensures .1)) ∙ ap (λ y. z -ℤ y) ((c .before .before .price) .ensures .0 ∙ ap (λ y. y *ℤ pos v) (back-is (g .priced i below) tt)) in
     let l = (c .before .before .before .before .before .before .loop) in
     let hv = (c .before .before .before .before .before .loop-test) .taken in
     let f = rw is at (l .inv .5) in
@@ -1178,23 +1098,29 @@ node-loop-again t c =
     (λ y.
     let led = rw e1 at (sym ((c .before .is-open) .ensures) ∙ y .0 .taken) in
     let kept = rw (y .1 .ensures) at (sym (y .3 .ensures) ∙ y .4 .taken) in
-    let found = rw (y .5 .ensures, one-less (a .n) (a .left) (x .pre .1 .1) some, y .1 .ensures, e1) at (y .9 .ensures .0) in
-    (rw (y .13) ((y .9 .kept .1 .1 .1 .1 .1 .1 .1 .1 .1 .1 .1 .1 .1 .1 .1 .1 .1 .1 .0) ∙ l .inv .0), rw (y .12) (y .9 .ensures .1 .1 .0), rw (y .12) (still i _ _ (rw (one-less (a .n) (a .left) (x .pre .1 .1) some) at (y .9 .ensures .1 .0)) ∙ take-set-le i (l .plan) i v (omega arith) ∙ l .inv .2), (λ e. absurd (omega arith)), rw (y .14) (y .9 .ensures .1 .1 .1), rw (y .13, y .14, is) (going-on (a .n) (a .m) (a .w) (now (a .sets)) (now (a .weights)) (now (a .lb)) (now (a .ub)) (now (a .coefs)) (now (a .values)) (now (a .arcs)) (now (a .cells)) (a .own) (a .n - a .left) (a .j) (now (a .totals)) (a .budget) (now (a .plan)) (a .cap) (now (a .page)) (a .seen) g below (x .pre .1 .2) (x .pre .1 .10) v hv first ((c .before .before .before .before .before .before .before .first-step) .ensures) (l .plan) (l .inv .1) (l .inv .2) (l .inv .3) (l .page) (l .t) _ _ led kept found f), omega arith))
+    let last : suc i ≡ a .n = omega (arith, y .6 .taken, x .pre .1 .2) in
+    let found = sink-leaf (a .n) (a .m) (a .w) (now (a .sets)) (now (a .weights)) (now (a .lb)) (now (a .ub)) (now (a .coefs)) (now (a .values)) (now (a .arcs)) (now (a .cells)) (a .own && eqb v first) (suc i) (b - 1) (withShares (now (a .coefs)) (now (a .values)) i v (now (a .totals))) (z -ℤ getD (now (a .weights)) i (pos 0) *ℤ pos v) (set (l .plan) i v) (a .cap) (l .page) (l .t) g last _ _ (rw (y .5 .ensures) at (y .9 .ensures .0)) in
+    (ap length (y .13) ∙ y .9 .kept .1 .1 .1 .1 .0 ∙ l .inv .0, ap length (y .12) ∙ length-set (l .plan) i v ∙ l .inv .1, ap (take i) (y .12) ∙ take-set-le i (l .plan) i v (omega arith) ∙ l .inv .2, (λ e. absurd (omega arith)), omega (arith, y .14, y .9 .ensures .1), moved (a .n) (a .m) (a .w) (now (a .sets)) (now (a .weights)) (now (a .lb)) (now (a .ub)) (now (a .coefs)) (now (a .values)) (now (a .arcs)) (now (a .cells)) (a .own) (a .n - a .left) (a .j) (now (a .totals)) (a .budget) (now (a .plan)) (a .cap) (now (a .page)) (a .seen) _ _ _ _ _ (v + 1) is (y .13) (y .14) (going-on (a .n) (a .m) (a .w) (now (a .sets)) (now (a .weights)) (now (a .lb)) (now (a .ub)) (now (a .coefs)) (now (a .values)) (now (a .arcs)) (now (a .cells)) (a .own) (a .n - a .left) (a .j) (now (a .totals)) (a .budget) (now (a .plan)) (a .cap) (now (a .page)) (a .seen) g below (x .pre .1 .3) (x .pre .1 .11) v hv first ((c .before .before .before .before .before .before .before .first-step) .ensures) (l .plan) (l .inv .1) (l .inv .2) (l .inv .3) (l .page) (l .t) _ _ led kept found f), omega arith))
+    (λ w. ⊎-elim
+    (λ y.
+    let led = rw e1 at (sym ((c .before .is-open) .ensures) ∙ y .0 .taken) in
+    let kept = rw (y .1 .ensures) at (sym (y .3 .ensures) ∙ y .4 .taken) in
+    let found = rw (y .5 .ensures, one-less (a .n) (a .left) (x .pre .1 .2) (λ e. omega arith), y .1 .ensures, e1) at (y .10 .ensures .0) in
+    (ap length (y .14) ∙ (y .10 .kept .1 .1 .1 .1 .1 .1 .1 .1 .1 .1 .1 .1 .1 .1 .1 .1 .1 .1 .0) ∙ l .inv .0, ap length (y .13) ∙ y .10 .ensures .1 .1 .0, ap (take i) (y .13) ∙ (still i _ _ (rw (one-less (a .n) (a .left) (x .pre .1 .2) (λ e. omega arith)) at (y .10 .ensures .1 .0)) ∙ take-set-le i (l .plan) i v (omega arith) ∙ l .inv .2), (λ e. absurd (omega arith)), omega (arith, y .15, y .10 .ensures .1 .1 .1), moved (a .n) (a .m) (a .w) (now (a .sets)) (now (a .weights)) (now (a .lb)) (now (a .ub)) (now (a .coefs)) (now (a .values)) (now (a .arcs)) (now (a .cells)) (a .own) (a .n - a .left) (a .j) (now (a .totals)) (a .budget) (now (a .plan)) (a .cap) (now (a .page)) (a .seen) _ _ _ _ _ (v + 1) is (y .14) (y .15) (going-on (a .n) (a .m) (a .w) (now (a .sets)) (now (a .weights)) (now (a .lb)) (now (a .ub)) (now (a .coefs)) (now (a .values)) (now (a .arcs)) (now (a .cells)) (a .own) (a .n - a .left) (a .j) (now (a .totals)) (a .budget) (now (a .plan)) (a .cap) (now (a .page)) (a .seen) g below (x .pre .1 .3) (x .pre .1 .11) v hv first ((c .before .before .before .before .before .before .before .first-step) .ensures) (l .plan) (l .inv .1) (l .inv .2) (l .inv .3) (l .page) (l .t) _ _ led kept found f), omega arith))
     (λ u. ⊎-elim
     (λ y.
     let led = rw e1 at (sym ((c .before .is-open) .ensures) ∙ y .0 .taken) in
     let kept = rw (y .1 .ensures) at (sym (y .3 .ensures) ∙ y .4 .left) in
-    (rw (y .6) (l .inv .0), rw (y .5) (l .inv .1), rw (y .5) (l .inv .2), (λ e. absurd (omega arith)), rw (y .7) (l .inv .4), rw (y .6, y .7, is) (going-back (a .n) (a .m) (a .w) (now (a .sets)) (now (a .weights)) (now (a .lb)) (now (a .ub)) (now (a .coefs)) (now (a .values)) (now (a .arcs)) (now (a .cells)) (a .own) (a .n - a .left) (a .j) (now (a .totals)) (a .budget) (now (a .plan)) (a .cap) (now (a .page)) (a .seen) g below (x .pre .1 .2) (x .pre .1 .10) v hv (l .page) (l .t) led kept f), omega arith))
+    (ap length (y .6) ∙ l .inv .0, ap length (y .5) ∙ l .inv .1, ap (take i) (y .5) ∙ l .inv .2, (λ e. absurd (omega arith)), omega (arith, y .7, l .inv .4), moved (a .n) (a .m) (a .w) (now (a .sets)) (now (a .weights)) (now (a .lb)) (now (a .ub)) (now (a .coefs)) (now (a .values)) (now (a .arcs)) (now (a .cells)) (a .own) (a .n - a .left) (a .j) (now (a .totals)) (a .budget) (now (a .plan)) (a .cap) (now (a .page)) (a .seen) _ _ _ _ _ (v + 1) is (y .6) (y .7) (going-back (a .n) (a .m) (a .w) (now (a .sets)) (now (a .weights)) (now (a .lb)) (now (a .ub)) (now (a .coefs)) (now (a .values)) (now (a .arcs)) (now (a .cells)) (a .own) (a .n - a .left) (a .j) (now (a .totals)) (a .budget) (now (a .plan)) (a .cap) (now (a .page)) (a .seen) g below (x .pre .1 .3) (x .pre .1 .11) v hv (l .page) (l .t) led kept f), omega arith))
     (λ y.
     let led = rw e1 at (sym ((c .before .is-open) .ensures) ∙ y .0 .left) in
-    (rw (y .2) (l .inv .0), rw (y .1) (l .inv .1), rw (y .1) (l .inv .2), (λ e. absurd (omega arith)), rw (y .3) (l .inv .4), rw (y .2, y .3, is) (going-past (a .n) (a .m) (a .w) (now (a .sets)) (now (a .weights)) (now (a .lb)) (now (a .ub)) (now (a .coefs)) (now (a .values)) (now (a .arcs)) (now (a .cells)) (a .own) (a .n - a .left) (a .j) (now (a .totals)) (a .budget) (now (a .plan)) (a .cap) (now (a .page)) (a .seen) g below (x .pre .1 .2) (x .pre .1 .10) v hv (l .page) (l .t) led f), omega arith))
+    (ap length (y .2) ∙ l .inv .0, ap length (y .1) ∙ l .inv .1, ap (take i) (y .1) ∙ l .inv .2, (λ e. absurd (omega arith)), omega (arith, y .3, l .inv .4), moved (a .n) (a .m) (a .w) (now (a .sets)) (now (a .weights)) (now (a .lb)) (now (a .ub)) (now (a .coefs)) (now (a .values)) (now (a .arcs)) (now (a .cells)) (a .own) (a .n - a .left) (a .j) (now (a .totals)) (a .budget) (now (a .plan)) (a .cap) (now (a .page)) (a .seen) _ _ _ _ _ (v + 1) is (y .2) (y .3) (going-past (a .n) (a .m) (a .w) (now (a .sets)) (now (a .weights)) (now (a .lb)) (now (a .ub)) (now (a .coefs)) (now (a .values)) (now (a .arcs)) (now (a .cells)) (a .own) (a .n - a .left) (a .j) (now (a .totals)) (a .budget) (now (a .plan)) (a .cap) (now (a .page)) (a .seen) g below (x .pre .1 .3) (x .pre .1 .11) v hv (l .page) (l .t) led f), omega arith))
     u)
-    ((c .if5) .came)
+    w)
+    ((c .if2) .came)
 
--- src/lib.rt:148:1
-node-same-length-3 : (t : ℕ) → node-lts.Need-same-length-3 (
-  put-reads.Asked,
-  put-reads.Learnt,
+-- src/lib.rt:29:1
+node-same-length-2 : (t : ℕ) → node-lts.Need-same-length-2 (
   first-step-reads.Asked,
   first-step-reads.Learnt,
   price-reads.Asked,
@@ -1207,15 +1133,15 @@ node-same-length-3 : (t : ℕ) → node-lts.Need-same-length-3 (
   may-keep-reads.Learnt,
   is-own-reads.Asked,
   is-own-reads.Learnt,
+  leaf-reads.Asked,
+  leaf-reads.Learnt,
   node-below t,
   node.Post,
 ) (node-at t) node.Post node-Inv-loop node-μ-loop
-node-same-length-3 t c = search needs
+node-same-length-2 t c = search needs
 
--- src/lib.rt:148:1
-node-returns-5 : (t : ℕ) → node-lts.Need-returns-5 (
-  put-reads.Asked,
-  put-reads.Learnt,
+-- src/lib.rt:29:1
+node-returns-2 : (t : ℕ) → node-lts.Need-returns-2 (
   first-step-reads.Asked,
   first-step-reads.Learnt,
   price-reads.Asked,
@@ -1228,23 +1154,23 @@ node-returns-5 : (t : ℕ) → node-lts.Need-returns-5 (
   may-keep-reads.Learnt,
   is-own-reads.Asked,
   is-own-reads.Learnt,
+  leaf-reads.Asked,
+  leaf-reads.Learnt,
   node-below t,
   node.Post,
 ) (node-at t) node.Post node-Inv-loop node-μ-loop
-node-returns-5 t c =
-    let x = c .before .before .before .before .before .before .before .before .before in
+node-returns-2 t c =
+    let x = c .before .before .before .before .before .before .before .before in
     let a = x .args in
     let g = x .pre .1 .0 in
-    let some = (c .before .before .before .before .before .before .if1) .left in
+    let some = x .pre .1 .1 in
     let i = a .n - a .left in
-    let below : i < a .n = omega (arith, x .pre .1 .1) in
+    let below : i < a .n = omega (arith, x .pre .1 .2) in
     let l = (c .before .loop) in
     (rw (toZ-ofZ (x .fits .budget)) at (going-ends (a .n) (a .m) (a .w) (now (a .sets)) (now (a .weights)) (now (a .lb)) (now (a .ub)) (now (a .coefs)) (now (a .values)) (now (a .arcs)) (now (a .cells)) (a .own) (a .n - a .left) (a .j) (now (a .totals)) (back (a .budget)) (now (a .plan)) (a .cap) (now (a .page)) (a .seen) (l .page) (l .t) (l .v) ((c .loop-test) .left) (l .inv .5)), (l .inv .2, (l .inv .1, l .inv .4)))
 
 pub +node-spec : {M : Type 1} → statement M
 +node-spec = close μ-node λ t. node-lts.spec (
-  put-reads.Asked,
-  put-reads.Learnt,
   first-step-reads.Asked,
   first-step-reads.Learnt,
   price-reads.Asked,
@@ -1257,6 +1183,8 @@ pub +node-spec : {M : Type 1} → statement M
   may-keep-reads.Learnt,
   is-own-reads.Asked,
   is-own-reads.Learnt,
+  leaf-reads.Asked,
+  leaf-reads.Learnt,
   node-below t,
   node.Post,
 )
@@ -1264,11 +1192,6 @@ pub +node-spec : {M : Type 1} → statement M
     node.Post
     node-Inv-loop
     node-μ-loop
-    (node-returns t)
-    (node-returns-2 t)
-    (node-put-requires t)
-    (node-same-length t)
-    (node-returns-3 t)
     (node-sub-i t)
     (node-mul-weight t)
     (node-element-copy-out-weight t)
@@ -1276,8 +1199,8 @@ pub +node-spec : {M : Type 1} → statement M
     (node-element-copy-out-set t)
     (node-first-step-requires t)
     (node-loop-holds t)
-    (node-same-length-2 t)
-    (node-returns-4 t)
+    (node-same-length t)
+    (node-returns t)
     (node-mul-b t)
     (node-add-b t)
     (node-mul-b-2 t)
@@ -1301,11 +1224,12 @@ pub +node-spec : {M : Type 1} → statement M
     (node-cast-plan t)
     (node-element-write-plan t)
     (node-is-own-requires t)
+    (node-leaf-requires t)
     (node-sub-node t)
     (node-sub-node-2 t)
     (node-node-requires t)
     (node-add-v t)
     (node-loop-less t)
     (node-loop-again t)
-    (node-same-length-3 t)
-    (node-returns-5 t)
+    (node-same-length-2 t)
+    (node-returns-2 t)

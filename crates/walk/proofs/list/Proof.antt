@@ -75,6 +75,7 @@ node-requires c κs =
     let few = start-few s in
     let start = now (s .args .start) in (
       walkable (s .pre .0) sets (s .pre .3) (s .pre .4) (parts .ensures .0),
+      right version1 p (s .pre .0 .right) .head .some,
       omega arith,
       s .pre .0 .some,
       zeros-within (7001 * (p .n - p .n)) 8,
