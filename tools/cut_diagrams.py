@@ -1,6 +1,6 @@
 #!/usr/bin/env python3
-"""cut_diagrams.py CALLS: run from the repository. Cuts every relaxed and restricted line of CALLS (the recorded vectors), and then every
-line of edges.py, into crates/diagrams: data/ (a file for each call), args (three words a call) and stdout (a line a call)."""
+"""cut_diagrams.py CALLS: run from the repository. Cuts every relaxed, restricted, page and walk line of CALLS (the recorded vectors), and
+then every line of edges.py, into crates/diagrams: data/ (a file for each call), args (three words a call) and stdout (a line a call)."""
 import os
 import shutil
 import sys
@@ -11,23 +11,37 @@ from edges import lines
 CRATE = os.path.join("crates", "diagrams")
 
 
+def bytes_of(word):
+    return bytes.fromhex(word.replace("-", ""))
+
+
 def cut(line):
     """The three words of a call, the bytes of its file, and the line that is printed for it."""
     left, answer = line.rstrip("\n").split(" = ")
-    operation, name, *numbers, file = left.split(" ")
-    numbers = [int(word) for word in numbers]
+    operation, name, *words, file = left.split(" ")
+    file = bytes_of(file)
+    rounds = ceiling = length = 0
+    start = given = b""
     if operation == "relaxed":
-        numbers.append(0)
+        width, rounds, ceiling, arcs, cells = words
+    elif operation == "restricted":
+        width, arcs, cells, length = words
+    elif operation == "page":
+        width, rounds, ceiling, start, arcs, cells, length = words
+        start = bytes_of(start)
     else:
-        numbers[1:1] = [0, 0]
-    data = pack("<IIiIII", *numbers) + bytes.fromhex(file.replace("-", ""))
+        width, ceiling, start, given, length = words
+        start, given = bytes_of(start), bytes_of(given)
+        arcs, cells = len(given), (file[5] + 1) * int(width) * (4 * file[6] + 3)
+    numbers = map(int, (width, rounds, ceiling, arcs, cells, length, len(start), len(given)))
+    data = pack("<IIiIIIII", *numbers) + start + given + file
     return [operation, name, operation + "_" + name], data, f"{operation} {name} = {answer}"
 
 
 if len(sys.argv) != 2:
     sys.exit(__doc__)
 with open(sys.argv[1]) as calls:
-    recorded = [line for line in calls if line.split(" ")[0] in ("relaxed", "restricted")]
+    recorded = [line for line in calls if line.split(" ")[0] in ("relaxed", "restricted", "page", "walk")]
 calls = [cut(line) for line in recorded + lines]
 assert len({words[2] for words, _, _ in calls}) == len(calls), "two calls of one name"
 assert len(calls) <= 1000, "more calls than the program runs"

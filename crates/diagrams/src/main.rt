@@ -1,12 +1,18 @@
-// Runs recorded calls of the two builders and prints a line for each, in the words of the recorded vectors.
-// The arguments are three words for each call: relaxed or restricted; the call's name; and the name of a file, which holds the
-// call's numbers (width, rounds, ceiling, the lengths of the three buffers, 32 bits each) and then the plan file.
+// Runs recorded calls of the two builders, of the page and of the walk, and prints a line for each, in the words of the recorded vectors.
+// The arguments are three words for each call: relaxed, restricted, page or walk; the call's name; and the name of a file, which holds
+// the call's numbers (width, rounds, ceiling, the lengths of the three buffers, of the start and of the given arcs, 32 bits each),
+// the start, the given arcs (of a walk) and then the plan file.
+ghost use mathlib.Core.Path.{_≡_};
 ghost use Prim.Native.Nat.{_<_, _≤_};
 ghost use lib.ListN.{length};
 ghost use Rattle.io.specs.Counts.{Counts};
+ghost use Rattle.meaning.specs.Problem.{version1};
+ghost use Rattle.problem.specs.Held.{faultIn};
 use cursor::Cursor;
 use diagram::Bound;
 use libc::STDOUT_FILENO;
+use pages::Count;
+use problem::Problem;
 
 // ---- words and numbers
 fn print(word: &[u8]) {
@@ -83,6 +89,14 @@ fn cells_are(cells: &[i32], value: i32) -> bool {
     true
 }
 
+fn copy(from: &[u8], to: &mut [u8]) {
+    for i in 0..from.len() {
+        if i < to.len() {
+            to[i] = from[i];
+        }
+    }
+}
+
 // ---- answers
 // A number and no other answer.
 fn is_alone(b: Bound) -> bool {
@@ -95,10 +109,17 @@ fn is_alone(b: Bound) -> bool {
     b.bound == 0
 }
 
-// What a refusal says: every buffer stands as it was.
-fn print_refusal(b: Bound, arcs: &[u8], cells: &[i32], plan: &[u8]) {
-    print_number(b.number as u64);
-    if is_alone(b) {
+fn is_none(c: Count) -> bool {
+    if c.more {
+        return false;
+    }
+    c.count == 0
+}
+
+// What a refusal says: its number is alone, and every buffer stands as it was.
+fn print_refusal(number: u32, alone: bool, arcs: &[u8], cells: &[i32], plan: &[u8]) {
+    print_number(number as u64);
+    if alone {
         if bytes_are(arcs, BYTE) {
             if cells_are(cells, CELL) {
                 if bytes_are(plan, BYTE) {
@@ -118,6 +139,12 @@ fn print_bound(b: Bound) {
     print_signed(b.bound);
     print(b",");
     print_flag(b.exact);
+}
+
+fn print_count(count: usize, more: bool) {
+    print_number(count as u64);
+    print(b",");
+    print_flag(more);
 }
 
 // The needed part of both buffers; a word more where something stands behind it.
@@ -147,14 +174,13 @@ fn print_buffers(n: usize, m: usize, w: usize, arcs: &[u8], cells: &[i32])
 }
 
 // The file's n and m stand at bytes 5 and 6.
-fn print_served(file: &[u8], width: u32, b: Bound, arcs: &[u8], cells: &[i32]) {
+fn print_diagram(file: &[u8], width: u32, arcs: &[u8], cells: &[i32]) {
     if file.len() < 7 {
         return;
     }
     if 16 < width {
         return;
     }
-    print_bound(b);
     print_buffers(
         file[5] as usize,
         file[6] as usize,
@@ -176,30 +202,113 @@ fn print_relaxed(
 ) {
     let b = brennigou::relaxed(file, width, rounds, ceiling, arcs, cells);
     if b.number != 0 {
-        print_refusal(b, arcs, cells, plan);
+        print_refusal(b.number, is_alone(b), arcs, cells, plan);
         return;
     }
-    print_served(file, width, b, arcs, cells);
+    print_bound(b);
+    print_diagram(file, width, arcs, cells);
 }
 
 fn print_restricted(file: &[u8], width: u32, arcs: &mut [u8], cells: &mut [i32], plan: &mut [u8]) {
     let b = brennigou::restricted(file, width, arcs, cells, plan);
     if b.number != 0 {
-        print_refusal(b, arcs, cells, plan);
+        print_refusal(b.number, is_alone(b), arcs, cells, plan);
         return;
     }
-    print_served(file, width, b, arcs, cells);
+    print_bound(b);
+    print_diagram(file, width, arcs, cells);
     print(b" ");
     print_bytes(plan);
 }
 
+fn print_page(
+    file: &[u8],
+    width: u32,
+    rounds: u32,
+    ceiling: i32,
+    start: &[u8],
+    arcs: &mut [u8],
+    cells: &mut [i32],
+    page: &mut [u8],
+) {
+    let c = brennigou::page(file, width, rounds, ceiling, start, arcs, cells, page);
+    if c.number != 0 {
+        print_refusal(c.number, is_none(c), arcs, cells, page);
+        return;
+    }
+    print(b"0 ");
+    print_count(c.count, c.more);
+    print_diagram(file, width, arcs, cells);
+    print(b" ");
+    print_bytes(page);
+}
+
+// The walk, where all that it asks for is there; says whether it ran.
+fn walks(
+    p: Problem,
+    width: u32,
+    ceiling: i32,
+    start: &[u8],
+    arcs: &mut [u8],
+    cells: &mut [i32],
+    page: &mut [u8],
+) -> bool
+    requires { ⌜ faultIn version1 p ≡ 0 ⌝ }
+{
+    if !diagram::numbers_are_right(width, 0, ceiling) {
+        return false;
+    }
+    let n = p.n;
+    let w = width as usize;
+    if start.len() != 0 {
+        if start.len() != n {
+            return false;
+        }
+    }
+    if page.len() < n {
+        return false;
+    }
+    if cells.len() != diagram::cells_need(n, p.m, w) {
+        return false;
+    }
+    if !walk::is_formed(n, w, arcs) {
+        return false;
+    }
+    let l = walk::walk(p, w, ceiling, start, arcs, cells, page);
+    print_count(l.count, l.more);
+    true
+}
+
+fn print_walk(
+    file: &[u8],
+    width: u32,
+    ceiling: i32,
+    start: &[u8],
+    arcs: &mut [u8],
+    cells: &mut [i32],
+    page: &mut [u8],
+) {
+    let r = rtp::read(file);
+    if r.number != 0 {
+        print(b"unserved");
+        return;
+    }
+    let p = r.problem;
+    if !walks(p, width, ceiling, start, arcs, cells, page) {
+        print(b"unserved");
+        return;
+    }
+    print(b" ");
+    print_bytes(page);
+}
+
 // ---- the calls
-// Prints word k and hands back its third letter.
+// Prints word k and hands back its fourth letter.
 fn print_word(k: usize) -> u8 {
     let mut word = io::buffer();
     let length = os::arg(k, &mut word);
     print(&word[..length]);
-    word[2]
+    word[3]
 }
 
 // Fills buf from the file that word k names, and hands back how many bytes that has.
@@ -223,9 +332,39 @@ fn lesser(a: usize, b: usize) -> usize
     if a < b { a } else { b }
 }
 
-// The numbers of a call, and the file behind them. The third letter tells relaxed from restricted.
+// The start, the given arcs and the file stand in `rest`, these lengths apart. The fourth letter tells the operations apart.
+fn run(
+    letter: u8,
+    width: u32,
+    rounds: u32,
+    ceiling: i32,
+    start_length: usize,
+    given_length: usize,
+    rest: &[u8],
+    arcs: &mut [u8],
+    cells: &mut [i32],
+    plan: &mut [u8],
+) {
+    let b = lesser(start_length, rest.len());
+    let start = &rest[..b];
+    let behind = &rest[b..];
+    let g = lesser(given_length, behind.len());
+    let given = &behind[..g];
+    let file = &behind[g..];
+    match letter {
+        b'a' => print_relaxed(file, width, rounds, ceiling, arcs, cells, plan),
+        b't' => print_restricted(file, width, arcs, cells, plan),
+        b'e' => print_page(file, width, rounds, ceiling, start, arcs, cells, plan),
+        _ => {
+            copy(given, arcs);
+            print_walk(file, width, ceiling, start, arcs, cells, plan);
+        }
+    }
+}
+
+// The numbers of a call, and what stands behind them.
 fn serve(letter: u8, s: &[u8], arcs: &mut [u8], cells: &mut [i32], plan: &mut [u8]) {
-    if s.len() < 24 {
+    if s.len() < 32 {
         print(b"missing");
         return;
     }
@@ -235,26 +374,27 @@ fn serve(letter: u8, s: &[u8], arcs: &mut [u8], cells: &mut [i32], plan: &mut [u
     let a = lesser(Cursor { at: 12 }.word(s).value as usize, arcs.len());
     let c = lesser(Cursor { at: 16 }.word(s).value as usize, cells.len());
     let p = lesser(Cursor { at: 20 }.word(s).value as usize, plan.len());
-    let file = &s[24..];
-    match letter {
-        b'l' => print_relaxed(
-            file,
-            width,
-            rounds,
-            ceiling,
-            &mut arcs[..a],
-            &mut cells[..c],
-            &plan[..p],
-        ),
-        _ => print_restricted(file, width, &mut arcs[..a], &mut cells[..c], &mut plan[..p]),
-    }
+    let start_length = Cursor { at: 24 }.word(s).value as usize;
+    let given_length = Cursor { at: 28 }.word(s).value as usize;
+    run(
+        letter,
+        width,
+        rounds,
+        ceiling,
+        start_length,
+        given_length,
+        &s[32..],
+        &mut arcs[..a],
+        &mut cells[..c],
+        &mut plan[..p],
+    );
 }
 
 // The call in buffers that are filled anew.
 fn print_call(letter: u8, s: &[u8]) {
     let mut arcs = [BYTE; 6200];
     let mut cells = [CELL; 14100];
-    let mut plan = [BYTE; 100];
+    let mut plan = [BYTE; 400];
     serve(letter, s, &mut arcs, &mut cells, &mut plan);
 }
 

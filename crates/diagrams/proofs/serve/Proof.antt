@@ -1,4 +1,4 @@
--- `serve` is safe: the fields stand within the first 24 bytes, and each part ends within its buffer.
+-- `serve` is safe: the numbers stand within the first 32 bytes, and each part ends within its buffer.
 use mathlib.Core.Path.{sym}
 use native.Mathlib.Omega.{arith}
 use lib.Seq.{length-take-le}
@@ -51,56 +51,47 @@ cast-lesser-3 c = search needs
 lesser-requires-3 : tie.Need-lesser-requires-3
 lesser-requires-3 c κs = search needs
 
-sub-file : tie.Need-sub-file
-sub-file c = omega (arith, c .before .before .before .before .before .before .before .before .before .before .before .before .before .if1 .left)
+word-requires-6 : tie.Need-word-requires-6
+word-requires-6 c κs = omega (arith, c .before .before .before .before .before .before .before .before .before .before .before .before .before .if1 .left)
 
-part-file-start : tie.Need-part-file-start
-part-file-start c = omega (arith, c .before .before .before .before .before .before .before .before .before .before .before .before .before .if1 .left)
+cast-start-length : tie.Need-cast-start-length
+cast-start-length c = search needs
 
-part-file-end : tie.Need-part-file-end
-part-file-end c = search needs
+word-requires-7 : tie.Need-word-requires-7
+word-requires-7 c κs = omega (arith, c .before .before .before .before .before .before .before .before .before .before .before .before .before .before .before .if1 .left)
 
-slice-relend-prefix-print-relaxed : tie.Need-slice-relend-prefix-print-relaxed
-slice-relend-prefix-print-relaxed c = search needs
+cast-given-length : tie.Need-cast-given-length
+cast-given-length c = search needs
 
-slice-aggregate-print-relaxed : tie.Need-slice-aggregate-print-relaxed
-slice-aggregate-print-relaxed c = sym (length-take-le (c .before .before .before .before .before .before .before .before .before .lesser .result) (c .before .before .before .before .before .before .before .before .before .before .before .before .before .before .before .before .before .before .before .before .args .arcs .now) (c .before .before .before .before .before .before .before .before .before .lesser .ensures))
+sub-run : tie.Need-sub-run
+sub-run c = omega (arith, c .before .before .before .before .before .before .before .before .before .before .before .before .before .before .before .before .before .if1 .left)
 
-slice-relend-prefix-print-relaxed-2 : tie.Need-slice-relend-prefix-print-relaxed-2
-slice-relend-prefix-print-relaxed-2 c = search needs
+part-run-start : tie.Need-part-run-start
+part-run-start c = omega (arith, c .before .before .before .before .before .before .before .before .before .before .before .before .before .before .before .before .before .if1 .left)
 
-slice-aggregate-print-relaxed-2 : tie.Need-slice-aggregate-print-relaxed-2
-slice-aggregate-print-relaxed-2 c = sym (length-take-le (c .before .before .before .before .before .before .before .lesser2 .result) (c .before .before .before .before .before .before .before .before .before .before .before .before .before .before .before .before .before .before .before .before .before .args .cells .now) (c .before .before .before .before .before .before .before .lesser2 .ensures))
+part-run-end : tie.Need-part-run-end
+part-run-end c = search needs
 
-slice-reshare-prefix-print-relaxed : tie.Need-slice-reshare-prefix-print-relaxed
-slice-reshare-prefix-print-relaxed c = search needs
+slice-relend-prefix-run : tie.Need-slice-relend-prefix-run
+slice-relend-prefix-run c = search needs
 
-slice-aggregate-print-relaxed-3 : tie.Need-slice-aggregate-print-relaxed-3
-slice-aggregate-print-relaxed-3 c = sym (length-take-le (c .before .before .before .before .before .lesser3 .result) (c .before .before .before .before .before .before .before .before .before .before .before .before .before .before .before .before .before .before .before .before .before .before .args .plan .now) (c .before .before .before .before .before .lesser3 .ensures))
+slice-aggregate-run : tie.Need-slice-aggregate-run
+slice-aggregate-run c = sym (length-take-le (c .before .before .before .before .before .before .before .before .before .before .before .before .lesser .result) (c .before .before .before .before .before .before .before .before .before .before .before .before .before .before .before .before .before .before .before .before .before .before .before .args .arcs .now) (c .before .before .before .before .before .before .before .before .before .before .before .before .lesser .ensures))
 
-print-relaxed-requires : tie.Need-print-relaxed-requires
-print-relaxed-requires c κs = search needs
+slice-relend-prefix-run-2 : tie.Need-slice-relend-prefix-run-2
+slice-relend-prefix-run-2 c = search needs
 
-slice-relend-prefix-print-restricted : tie.Need-slice-relend-prefix-print-restricted
-slice-relend-prefix-print-restricted c = search needs
+slice-aggregate-run-2 : tie.Need-slice-aggregate-run-2
+slice-aggregate-run-2 c = sym (length-take-le (c .before .before .before .before .before .before .before .before .before .before .lesser2 .result) (c .before .before .before .before .before .before .before .before .before .before .before .before .before .before .before .before .before .before .before .before .before .before .before .before .args .cells .now) (c .before .before .before .before .before .before .before .before .before .before .lesser2 .ensures))
 
-slice-aggregate-print-restricted : tie.Need-slice-aggregate-print-restricted
-slice-aggregate-print-restricted c = sym (length-take-le (c .before .before .before .before .before .before .before .before .before .lesser .result) (c .before .before .before .before .before .before .before .before .before .before .before .before .before .before .before .before .before .before .before .before .args .arcs .now) (c .before .before .before .before .before .before .before .before .before .lesser .ensures))
+slice-relend-prefix-run-3 : tie.Need-slice-relend-prefix-run-3
+slice-relend-prefix-run-3 c = search needs
 
-slice-relend-prefix-print-restricted-2 : tie.Need-slice-relend-prefix-print-restricted-2
-slice-relend-prefix-print-restricted-2 c = search needs
+slice-aggregate-run-3 : tie.Need-slice-aggregate-run-3
+slice-aggregate-run-3 c = sym (length-take-le (c .before .before .before .before .before .before .before .before .lesser3 .result) (c .before .before .before .before .before .before .before .before .before .before .before .before .before .before .before .before .before .before .before .before .before .before .before .before .before .args .plan .now) (c .before .before .before .before .before .before .before .before .lesser3 .ensures))
 
-slice-aggregate-print-restricted-2 : tie.Need-slice-aggregate-print-restricted-2
-slice-aggregate-print-restricted-2 c = sym (length-take-le (c .before .before .before .before .before .before .before .lesser2 .result) (c .before .before .before .before .before .before .before .before .before .before .before .before .before .before .before .before .before .before .before .before .before .args .cells .now) (c .before .before .before .before .before .before .before .lesser2 .ensures))
-
-slice-relend-prefix-print-restricted-3 : tie.Need-slice-relend-prefix-print-restricted-3
-slice-relend-prefix-print-restricted-3 c = search needs
-
-slice-aggregate-print-restricted-3 : tie.Need-slice-aggregate-print-restricted-3
-slice-aggregate-print-restricted-3 c = sym (length-take-le (c .before .before .before .before .before .lesser3 .result) (c .before .before .before .before .before .before .before .before .before .before .before .before .before .before .before .before .before .before .before .before .before .before .args .plan .now) (c .before .before .before .before .before .lesser3 .ensures))
-
-print-restricted-requires : tie.Need-print-restricted-requires
-print-restricted-requires c κs = search needs
+run-requires : tie.Need-run-requires
+run-requires c κs = search needs
 
 same-length : tie.Need-same-length
 same-length c = search needs
@@ -113,18 +104,6 @@ same-length-3 c = search needs
 
 returns-2 : tie.Need-returns-2
 returns-2 c = search needs
-
-same-length-4 : tie.Need-same-length-4
-same-length-4 c = search needs
-
-same-length-5 : tie.Need-same-length-5
-same-length-5 c = search needs
-
-same-length-6 : tie.Need-same-length-6
-same-length-6 c = search needs
-
-returns-3 : tie.Need-returns-3
-returns-3 c = search needs
 
 pub serve-spec : {M : Type 1} → statement M
 serve-spec =
@@ -145,28 +124,21 @@ serve-spec =
     word-requires-5
     cast-lesser-3
     lesser-requires-3
-    sub-file
-    part-file-start
-    part-file-end
-    slice-relend-prefix-print-relaxed
-    slice-aggregate-print-relaxed
-    slice-relend-prefix-print-relaxed-2
-    slice-aggregate-print-relaxed-2
-    slice-reshare-prefix-print-relaxed
-    slice-aggregate-print-relaxed-3
-    print-relaxed-requires
-    slice-relend-prefix-print-restricted
-    slice-aggregate-print-restricted
-    slice-relend-prefix-print-restricted-2
-    slice-aggregate-print-restricted-2
-    slice-relend-prefix-print-restricted-3
-    slice-aggregate-print-restricted-3
-    print-restricted-requires
+    word-requires-6
+    cast-start-length
+    word-requires-7
+    cast-given-length
+    sub-run
+    part-run-start
+    part-run-end
+    slice-relend-prefix-run
+    slice-aggregate-run
+    slice-relend-prefix-run-2
+    slice-aggregate-run-2
+    slice-relend-prefix-run-3
+    slice-aggregate-run-3
+    run-requires
     same-length
     same-length-2
     same-length-3
-    returns-2
-    same-length-4
-    same-length-5
-    same-length-6
-    returns-3)
+    returns-2)

@@ -1,17 +1,14 @@
--- `print_served` is safe: a byte is below 256, the width at most 16.
+-- `print_diagram` is safe: a byte is below 256, the width at most 16.
 use native.Mathlib.Omega.{arith}
 use borrow.Author.Needs.{needs}
-use Rattle.diagrams.proofs.print_served.Statement.{statement}
-use Rattle.diagrams.proofs.print_served.Tie as tie
+use Rattle.diagrams.proofs.print_diagram.Statement.{statement}
+use Rattle.diagrams.proofs.print_diagram.Tie as tie
 
 returns : tie.Need-returns
 returns c = search needs
 
 returns-2 : tie.Need-returns-2
 returns-2 c = search needs
-
-print-bound-requires : tie.Need-print-bound-requires
-print-bound-requires c κs = search needs
 
 shared-slice-read-print-buffers : tie.Need-shared-slice-read-print-buffers
 shared-slice-read-print-buffers c = search needs
@@ -31,13 +28,12 @@ print-buffers-requires c κs = (omega (arith, c .before .shared-slice-known3 .gi
 returns-3 : tie.Need-returns-3
 returns-3 c = search needs
 
-pub print-served-spec : {M : Type 1} → statement M
-print-served-spec =
+pub print-diagram-spec : {M : Type 1} → statement M
+print-diagram-spec =
     tie.close
     (tie.spec
     returns
     returns-2
-    print-bound-requires
     shared-slice-read-print-buffers
     cast-print-buffers
     shared-slice-read-print-buffers-2
