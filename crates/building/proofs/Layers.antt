@@ -9,6 +9,7 @@ use borrow.Author.Tests.{leb-true, leb-false}
 use lib.Dec.{leb}
 use lib.ListN.{length, take, drop, replicate, length-map, length-append, length-take, length-drop}
 use Rattle.laws.specs.Lists.{flat, padded}
+use Rattle.laws.proofs.Filled.{flat-long}
 use Rattle.laws.proofs.Each.{Each}
 use Rattle.meaning.specs.Plan.{Campaign}
 use Rattle.meaning.specs.Diagram.{Node, firstAppearance, arrivals, distinct, states, Builder, relaxed, restricted, shared, nodesOf, arcByte, sinkByte, Layer, layers}
@@ -19,7 +20,7 @@ use Rattle.classes.specs.Classes.{classByte}
 use Rattle.layer.specs.Places.{builderOf, placed}
 use Rattle.building.specs.Layers.{Made}
 use Rattle.building.proofs.Filled.{Of, OfIf, fill, Long, distinct-of, nodes-of, distinct-filled, arcs-filled, sinks-filled}
-use Rattle.building.proofs.Lists.{map-flat, zeros-map, padded-front, flat-long, flat-padded}
+use Rattle.building.proofs.Lists.{map-flat, zeros-map, padded-front, flat-padded}
 use Rattle.building.proofs.Children.{Totals, totals-merged, Nodes, nodes-long, arrivals-long, arrivals-totals}
 
 -- ---- one layer of the meaning: s is its slot's set, ss are those behind it
@@ -68,7 +69,7 @@ bytes-laid w f g os bs z h k e =
     let size : length (flat os) ≡ length all = sym (length-map (flat os) g) ∙ ap length (map-flat g os) in
     map-append f bs (drop (length (flat os)) (replicate (w * 8) 0))
     ∙ (λ i. same i ++ zeros-map f z (size i) (w * 8) i)
-    ∙ padded-front 0 (w * 8) all (omega (arith, flat-long 0 8 (map (map g) os) k))
+    ∙ padded-front 0 (w * 8) all (omega (arith, flat-long 8 (map (map g) os) k))
     ∙ sym (flat-padded 0 w 8 (map (map g) os) h k)
 
 -- the layer of the meaning in its bytes, and in the number of states behind it, of which the last has none

@@ -1,14 +1,13 @@
 -- What is true of rows of the same length one behind the other, and of lists that are filled up?
-use mathlib.Core.Path.{_≡_, refl, sym, ap, _∙_}
+use mathlib.Core.Path.{_≡_, refl, ap, _∙_}
 use mathlib.Core.List.{List, [], _∷_, _++_, map, map-append}
 use mathlib.Core.Bool.{Bool, true, false, _&&_}
-use Prim.Native.Nat.{ℕ, zero, suc, _+_, _*_, _-_, _≤_, _<_}
+use Prim.Native.Nat.{ℕ, zero, suc, _+_, _*_, _≤_, _<_}
 use native.Mathlib.Nat.{zero-mul, suc-mul}
 use native.Mathlib.Omega.{arith}
-use lib.ListN.{length, getD, take, drop, replicate, length-append}
+use lib.ListN.{length, getD, take, drop, replicate}
 use Rattle.laws.specs.Lists.{every, gather, flat, from, padded}
 use Rattle.laws.proofs.Each.{Each}
-use Rattle.laws.proofs.Filled.{padded-none}
 
 -- ---- numbers
 from-append : (k a b : ℕ) → from k (a + b) ≡ from k a ++ from (k + a) b
@@ -88,11 +87,6 @@ module _ {A : Type 0} (z : A) where
   padded-front zero (x ∷ l) h = absurd (omega arith)
   padded-front (suc n) (x ∷ l) h = ap (λ (r : List A). x ∷ r) (padded-front n l (omega arith))
 
-  pub padded-rest : (n : ℕ) (l : List A) → length l ≤ n → l ++ replicate (n - length l) z ≡ padded n z l
-  padded-rest n [] h = let o : n - 0 ≡ n = omega arith in rw o (sym (padded-none z n))
-  padded-rest zero (x ∷ l) h = absurd (omega arith)
-  padded-rest (suc n) (x ∷ l) h = let o : suc n - suc (length l) ≡ n - length l = omega arith in rw o (ap (λ (r : List A). x ∷ r) (padded-rest n l (omega arith)))
-
   zeros-first : (k n : ℕ) → k ≤ n → take k (padded n z []) ≡ replicate k z
   zeros-first zero n h = refl
   zeros-first (suc k) zero h = absurd (omega arith)
@@ -114,12 +108,7 @@ module _ {A : Type 0} (z : A) where
   padded-zeros zero b = let o : 0 + b ≡ b = omega arith in rw o
   padded-zeros (suc a) b = let o : suc a + b ≡ suc (a + b) = omega arith in rw o (ap (λ (r : List A). z ∷ r) (padded-zeros a b))
 
-  -- rows of k
-  pub flat-long : (k : ℕ) (l : List (List A)) → Each (λ x. length x ≡ k) l → length (flat l) ≡ length l * k
-  flat-long k [] e = sym (zero-mul k)
-  flat-long k (x ∷ l) e = length-append x (flat l) ∙ omega (arith, e .0, flat-long k l (e .1), suc-mul (length l) k)
-
-  -- filled up with rows of z
+  -- rows of k, filled up with rows of z
   pub flat-padded : (w k : ℕ) (l : List (List A)) → length l ≤ w → Each (λ x. length x ≡ k) l → flat (padded w (replicate k z) l) ≡ padded (w * k) z (flat l)
   flat-padded zero k [] h e = let o : 0 * k ≡ 0 = zero-mul k in rw o
   flat-padded zero k (x ∷ l) h e = absurd (omega arith)
@@ -129,9 +118,3 @@ module _ {A : Type 0} (z : A) where
   flat-padded (suc w) k (x ∷ l) h e =
       let size : suc w * k ≡ k + w * k = omega (arith, suc-mul w k) in
       rw (size, padded-row k (w * k) x (flat l) (e .0)) (ap (λ (r : List A). x ++ r) (flat-padded w k l (omega arith) (e .1)))
-
--- a list that is filled up, and what fills it
-pub padded-split : {A : Type 0} (n : ℕ) (z : A) (l : List A) → length l ≤ n → padded n z l ≡ l ++ replicate (n - length l) z
-padded-split n z [] h = let o : n - 0 ≡ n = omega arith in rw o (padded-none z n)
-padded-split zero z (x ∷ l) h = absurd (omega arith)
-padded-split {A} (suc n) z (x ∷ l) h = let o : suc n - suc (length l) ≡ n - length l = omega arith in rw o (ap (λ (r : List A). x ∷ r) (padded-split n z l (omega arith)))

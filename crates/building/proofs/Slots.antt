@@ -15,7 +15,7 @@ use lib.IntN.{ℤ, pos}
 use Rattle.laws.specs.Z.{Within}
 use Rattle.laws.specs.Lists.{every, flat, from, padded, parted}
 use Rattle.laws.proofs.Each.{Each, each-map}
-use Rattle.laws.proofs.Filled.{length-padded, each-padded, padded-none, padded-paste, gather-more}
+use Rattle.laws.proofs.Filled.{length-padded, each-padded, padded-none, padded-paste, padded-split, gather-more}
 use Rattle.meaning.specs.Plan.{Rule, Campaign, slots}
 use Rattle.meaning.specs.Diagram.{State, reaches, Node, firstAppearance, arrivals, starts, Builder, arcByte, states, nodesOf, Layer, layers, source, layersOf, Arcs, narrow, isExact, built}
 use Rattle.meaning.specs.Filter.{Numbers, downAt, nodeCount}
@@ -35,7 +35,7 @@ use Rattle.rows.proofs.Laid.{place-in, part-is, put, put-pastes}
 use Rattle.layer.specs.Places.{builderOf}
 use Rattle.building.specs.Layers.{Made}
 use Rattle.building.proofs.Filled.{fill}
-use Rattle.building.proofs.Lists.{each-left, each-right, every-more, padded-behind, padded-split, flat-padded}
+use Rattle.building.proofs.Lists.{each-left, each-right, every-more, padded-behind, flat-padded}
 use Rattle.building.proofs.Children.{Nodes, nodes-held, nodes-totalled, arrivals-at}
 use Rattle.building.proofs.Layers.{layerAt, nextNodes, layers-next, arcs-long, none-left, Stands, layer-stands, next-totals, next-count}
 

@@ -1,13 +1,13 @@
 -- Do the cells lead along the plan shown? Each arc that the sweep leaves leads to a node that is present, whose cells hold its cost up.
 use mathlib.Core.Path.{_≡_, refl, sym, _∙_, ap, subst}
 use mathlib.Core.List.{List, [], _∷_, tail}
-use mathlib.Core.Bool.{Bool, true, false, cond, true≢false}
-use mathlib.Core.Option.{none, some, Option·none-ne-some}
+use mathlib.Core.Bool.{true, true≢false}
+use mathlib.Core.Option.{none, some}
 use Prim.Native.Nat.{ℕ, zero, suc, _+_, _*_, _-_, _≤_, _<_}
 use native.Mathlib.Omega.{arith}
 use native.Mathlib.Nat.{zero-add, add-zero, suc-mul, add-mul, mul-assoc, mul-le-mul-right}
 use native.Mathlib.Numerals.{add-one}
-use borrow.Author.Tests.{eqb-true, eq-eqb}
+use borrow.Author.Tests.{eqb-true}
 use lib.Dec.{eqb}
 use lib.ListN.{length, getD, take, drop, length-take, length-drop, List·getD-map}
 use lib.Seq.{drop-cons, getD-drop, getD-take}
@@ -18,7 +18,7 @@ use Rattle.laws.proofs.Lists.{and-l, and-r}
 use Rattle.laws.proofs.Each.{Each, each-at, each-below, each-more, each-take, each-drop}
 use Rattle.meaning.specs.Plan.{Campaign, slots}
 use Rattle.meaning.specs.Diagram.{State, Arcs}
-use Rattle.meaning.specs.Filter.{Numbers, meet, over, upNode, downNode, downAt, nodeCount, downs, begins, downNumbers, upNumbers, swept}
+use Rattle.meaning.specs.Filter.{Numbers, upNode, nodeCount, upNumbers, swept}
 use Rattle.meaning.specs.Bound.{along, walks, arcAt, passes}
 use Rattle.meaning.specs.Buffers.{cellsNeed, nodeNeed, nodeCells, numberCells}
 use Rattle.meaning.proofs.Walks.{next, walk-there}
@@ -27,62 +27,18 @@ use Rattle.meaning.proofs.Attains.{swept-arc}
 use Rattle.lent.specs.Wide.{laid, Sized}
 use Rattle.lent.specs.Small.{Small, Fit}
 use Rattle.lent.specs.Led.{costOf, firstStep, firstUps, led}
-use Rattle.lent.proofs.Places.{made-at, nextDowns}
 use Rattle.lent.proofs.Led.{ups-at, Step, node-step}
-use Rattle.lent.proofs.Shape.{Form, Shaped}
+use Rattle.lent.proofs.Shape.{Low, Shaped, form-low}
+use Rattle.lent.proofs.Whole.{tail-drop}
+use Rattle.lent.proofs.Brings.{Has, arc-brings}
+use Rattle.lent.proofs.Table.{bytes-at}
 use Rattle.diagram.specs.Leading.{firstCell, Led}
-use Rattle.diagram.proofs.Table.{bytes-at}
 use Rattle.diagram.proofs.Cells.{downAt as downOf, upAt, cost-up, source-begins, down-fits, up-fits, cell-at, cells-inside}
 
--- ---- a node has numbers
-pub record Has (n : Numbers) : Type 0 where
-  pub value : State × ℤ
-  pub is : n ≡ some value
-
-none-has : Has none → ⊥
-none-has h = Option·none-ne-some (h .value) (h .is)
-
-meet-l : (n m : Numbers) → Has n → Has (meet n m)
-meet-l none m h = absurd (none-has h)
-meet-l (some a) none h = h
-meet-l (some a) (some b) h = record { value = _; is = refl }
-
-meet-r : (n m : Numbers) → Has m → Has (meet n m)
-meet-r none m h = h
-meet-r (some a) none h = absurd (none-has h)
-meet-r (some a) (some b) h = record { value = _; is = refl }
-
-over-has : (q : Campaign) (i v : ℕ) (n : Numbers) → Has n → Has (over q i v n)
-over-has q i v none h = absurd (none-has h)
-over-has q i v (some a) h = record { value = _; is = refl }
-
+-- ---- a node whose numbers cover a path has some
 cover-has : (n : Numbers) (t : State) (c : ℤ) → Cover n t c → Has n
 cover-has none t c h = absurd h
 cover-has (some a) t c h = record { value = a; is = refl }
-
--- ---- down: an arc from a node that has numbers brings some to its child
-module _ (q : Campaign) (i k : ℕ) where
-  node-brings : (d : Numbers) (bs : List ℕ) (u v : ℕ) → getD bs v 0 ≡ suc k → Has d → Has (downNode q i k d u bs)
-  node-brings d [] u v e h = absurd (omega arith)
-  node-brings d (b ∷ bs) u zero e h = rw (eq-eqb b (suc k) e) (meet-l (over q i u d) (downNode q i k d (suc u) bs) (over-has q i u d h))
-  node-brings d (b ∷ bs) u (suc v) e h = go (eqb b (suc k)) (node-brings d bs (suc u) v e h)
-    where
-      go : (t : Bool) → Has (downNode q i k d (suc u) bs) → Has (cond t (meet (over q i u d) (downNode q i k d (suc u) bs)) (downNode q i k d (suc u) bs))
-      go true x = meet-r (over q i u d) (downNode q i k d (suc u) bs) x
-      go false x = x
-
-  layer-brings : (ds : List Numbers) (l : List (List ℕ)) (j v : ℕ) → getD (getD l j []) v 0 ≡ suc k → Has (getD ds j none) → Has (downAt q i k ds l)
-  layer-brings [] l j v e h = absurd (none-has h)
-  layer-brings (d ∷ ds) [] j v e h = absurd (omega arith)
-  layer-brings (d ∷ ds) (bs ∷ l) zero v e h = meet-l (downNode q i k d 0 bs) (downAt q i k ds l) (node-brings d bs 0 v e h)
-  layer-brings (d ∷ ds) (bs ∷ l) (suc j) v e h = meet-r (downNode q i k d 0 bs) (downAt q i k ds l) (layer-brings ds l j v e h)
-
-downs-next : (q : Campaign) (i : ℕ) (ds : List Numbers) (a : Arcs) (t : ℕ) → t < length a
-    → getD (downs q i ds a) (suc t) [] ≡ nextDowns q (i + t) (getD (downs q i ds a) t []) (getD a t []) (drop (suc t) a)
-downs-next q i ds [] t h = absurd (omega arith)
-downs-next q i ds (l ∷ []) zero h = let o : i + 0 ≡ i = omega arith in rw o refl
-downs-next q i ds (l ∷ m ∷ ls) zero h = let o : i + 0 ≡ i = omega arith in rw o refl
-downs-next q i ds (l ∷ ls) (suc t) h = let o : i + suc t ≡ suc i + t = omega arith in rw o (downs-next q (suc i) (nextDowns q i ds l ls) ls t (omega arith))
 
 -- ---- up: what is left of a path behind an arc that it passes
 record Rest (a : Arcs) (i j v : ℕ) : Type 0 where
@@ -120,11 +76,9 @@ child q b i j v k h d e =
     let below = walk-there (drop (suc i) a) k (r .steps) walk in
     let ups : getD (upNumbers q a) (suc i) [] ≡ firstUps q (suc i) (drop (suc i) a) = rw (zero-add (suc i)) at (ups-at q 0 a (suc i) h) in
     let covers = ups-cover q (suc i) (drop (suc i) a) k (r .steps) walk in
-    let ds = getD (downNumbers q a) i [] in
-    let next : getD (downNumbers q a) (suc i) [] ≡ nextDowns q i ds (getD a i []) (drop (suc i) a) = rw (zero-add i) at (downs-next q 0 (begins q ∷ []) a i h) in
     record {
       below = below;
-      down = rw (next, made-at (λ n. downAt q i n ds (getD a i [])) (nodeCount (drop (suc i) a)) k none below) (layer-brings q i k ds (getD a i []) j v e d);
+      down = arc-brings q a i j v k h below e d;
       up = rw ups (cover-has (getD (firstUps q (suc i) (drop (suc i) a)) k none) _ _ covers);
     }
 
@@ -149,22 +103,9 @@ nodes-few k w h [] s (suc i) = h
 nodes-few k w h (l ∷ ls) s zero = s .0 .0
 nodes-few k w h (l ∷ ls) s (suc i) = nodes-few k w h ls (s .1) i
 
-form-low : (w : ℕ) → 1 ≤ w → (a : Arcs) → Form w a → (i : ℕ) → Each (Each (λ b. b ≤ w)) (getD a i [])
-form-low w h [] f i = tt
-form-low w h (l ∷ []) f zero = each-more (Each (λ b. b ≤ 1)) (Each (λ b. b ≤ w)) (λ bs e. each-more (λ b. b ≤ 1) (λ b. b ≤ w) (λ b o. omega arith) bs e) l f
-form-low w h (l ∷ []) f (suc i) = tt
-form-low w h (l ∷ m ∷ ls) f zero = f .0
-form-low w h (l ∷ m ∷ ls) f (suc i) = form-low w h (m ∷ ls) (f .1) i
-
 pub led-long : (q : Campaign) (i : ℕ) (a : Arcs) (k : ℕ) → length (led q i a k) ≡ length a
 led-long q i [] k = refl
 led-long q i (l ∷ ls) k = ap suc (led-long q (suc i) ls _)
-
-drop-suc : {A : Type 0} (i : ℕ) (l : List A) → drop (suc i) l ≡ tail (drop i l)
-drop-suc zero [] = refl
-drop-suc (suc i) [] = refl
-drop-suc zero (x ∷ l) = refl
-drop-suc (suc i) (x ∷ l) = drop-suc i l
 
 -- ---- along the plan: node j of layer i is present, and the steps from there are the plan's
 pub record On (q : Campaign) (w : ℕ) (a : Arcs) (i j : ℕ) : Type 0 where
@@ -271,7 +212,7 @@ module _ (q : Campaign) (s : Small q) (w : ℕ) (wide : 1 ≤ w) (b : Arcs) (h :
         few = s .rules;
         small = r;
         eight = bytes-long ∙ s .steps;
-        there = each-more (λ b. b ≤ w) (λ b. b * k ≤ length y) (λ b f. omega (arith, mul-le-mul-right k f, next-long)) (getD l j []) (each-at (Each (λ b. b ≤ w)) l j [] tt (form-low w wide a (h .form) i));
+        there = each-more (λ b. b ≤ w) (λ b. b * k ≤ length y) (λ b f. omega (arith, mul-le-mul-right k f, next-long)) (getD l j []) (each-at (Each (λ b. b ≤ w)) l j [] tt (each-at (Low w) a i [] tt (form-low w wide a (h .form))));
         inside = each-take (Within 4000000) (w * k) (drop ((i + 1) * (w * k)) x) (each-drop (Within 4000000) ((i + 1) * (w * k)) x (rw cells-are (cells-inside q s w a h z room)));
       })
 
@@ -296,6 +237,6 @@ module _ (q : Campaign) (s : Small q) (w : ℕ) (wide : 1 ≤ w) (b : Arcs) (h :
               below = omega (arith, n .below, nodes-few (q .steps) w wide a (h .sized) (suc i));
               down = n .down;
               up = n .up;
-              rest = drop-suc i (led q 0 a 0) ∙ ap tail rest;
+              rest = sym (tail-drop i (led q 0 a 0)) ∙ ap tail rest;
             });
           }

@@ -14,14 +14,14 @@ use Rattle.laws.proofs.Filled.{getD-padded, each-padded}
 use Rattle.laws.proofs.Each.{Each, each-at, each-more}
 use Rattle.meaning.specs.Plan.{Campaign, slots}
 use Rattle.meaning.specs.Diagram.{State, Arcs}
-use Rattle.meaning.specs.Filter.{Numbers, begins, zeros, downs, ups, downNumbers, upNumbers}
+use Rattle.meaning.specs.Filter.{Numbers, begins, zeros, ups, downNumbers, upNumbers}
 use Rattle.meaning.specs.Buffers.{cellsNeed, nodeNeed, pairCells, nodeCells, allCells, numberCells}
 use Rattle.lent.specs.Small.{Small, Fit, FewBytes}
-use Rattle.lent.proofs.Places.{nextDowns}
 use Rattle.lent.proofs.Fit.{downs-fit, ups-fit}
 use Rattle.lent.proofs.Cells.{pairs-long, cells-within}
 use Rattle.lent.proofs.Shape.{Shaped}
-use Rattle.diagram.proofs.Table.{table, cells-table, Celled, table-even, table-rows, table-at, table-long, table-each, element-at}
+use Rattle.lent.proofs.Whole.{downs-count, ups-count}
+use Rattle.lent.proofs.Table.{Celled, cells-count, cell-at as node-cell, table-each}
 
 -- ---- a node's cells
 module _ (q : Campaign) (h k : ℕ) where
@@ -48,14 +48,6 @@ module _ (q : Campaign) (h k : ℕ) where
 
 -- ---- the numbers of every layer
 module _ (q : Campaign) where
-  downs-long : (i : ℕ) (ds : List Numbers) (a : Arcs) → length (downs q i ds a) ≡ suc (length a)
-  downs-long i ds [] = refl
-  downs-long i ds (l ∷ ls) = ap suc (downs-long (suc i) (nextDowns q i ds l ls) ls)
-
-  ups-count : (i : ℕ) (a : Arcs) → length (ups q i a) ≡ suc (length a)
-  ups-count i [] = refl
-  ups-count i (l ∷ ls) = ap suc (ups-count (suc i) ls)
-
   -- of node j of layer i
   abbrev pub downAt : Arcs → ℕ → ℕ → Numbers
   downAt a i j = getD (getD (downNumbers q a) i []) j none
@@ -93,17 +85,15 @@ module _ (q : Campaign) (s : Small q) (w : ℕ) (a : Arcs) (h : Shaped q w a) wh
   cells = allCells (nodeNeed q) w (downNumbers q a) (upNumbers q a)
 
   rows : length (downNumbers q a) ≡ suc (slots q)
-  rows = downs-long q 0 (begins q ∷ []) a ∙ ap suc (h .long)
+  rows = downs-count q 0 (begins q ∷ []) a ∙ ap suc (h .long)
 
   same-rows : length (upNumbers q a) ≡ length (downNumbers q a)
-  same-rows = ups-count q 0 a ∙ sym (downs-long q 0 (begins q ∷ []) a)
+  same-rows = ups-count q 0 a ∙ sym (downs-count q 0 (begins q ∷ []) a)
 
   cells-long : length cells ≡ cellsNeed q w
   cells-long =
       let k = nodeNeed q in
-      let t = table k w (downNumbers q a) (upNumbers q a) in
-      ap length (cells-table k w (downNumbers q a) (upNumbers q a)) ∙ table-long k w t (table-even k w (downNumbers q a) (upNumbers q a) celled)
-      ∙ ap (λ (n : ℕ). n * (w * k)) (table-rows k w (downNumbers q a) (upNumbers q a) same-rows ∙ rows) ∙ sym (mul-assoc (suc (slots q)) w k)
+      cells-count k w (downNumbers q a) (upNumbers q a) same-rows celled ∙ ap (λ (n : ℕ). n * (w * k)) rows ∙ sym (mul-assoc (suc (slots q)) w k)
 
   -- in a buffer that has room for them
   module _ (z : ℕ) (room : cellsNeed q w ≤ z) where
@@ -111,15 +101,8 @@ module _ (q : Campaign) (s : Small q) (w : ℕ) (a : Arcs) (h : Shaped q w a) wh
     pub cell-at : (i j v : ℕ) → i ≤ slots q → j < w → v < nodeNeed q
         → getD (numberCells q w z a) ((i * w + j) * nodeNeed q + v) (pos 0) ≡ getD (nodeCells (nodeNeed q) (downAt q a i j) (upAt q a i j)) v (pos 0)
     cell-at i j v b c e =
-        let k = nodeNeed q in
-        let ds = downNumbers q a in
-        let us = upNumbers q a in
-        let at = (i * w + j) * k + v in
-        let d = replicate k (pos 0) in
-        getD-padded z cells at (pos 0) (omega (arith, cells-long))
-        ∙ ap (λ (l : List ℤ). getD l at (pos 0)) (cells-table k w ds us)
-        ∙ element-at k w (table k w ds us) (table-even k w ds us celled) i j v d (pos 0) (omega (arith, table-rows k w ds us same-rows, rows)) c e
-        ∙ ap (λ (l : List ℤ). getD l v (pos 0)) (table-at k w ds us i j same-rows (omega (arith, rows)) c)
+        getD-padded z cells ((i * w + j) * nodeNeed q + v) (pos 0) (omega (arith, cells-long))
+        ∙ node-cell (nodeNeed q) w (downNumbers q a) (upNumbers q a) same-rows celled i j v (omega (arith, rows)) c e
 
     -- behind them zeros
     pub cells-behind : numberCells q w z a ≡ numberCells q w (cellsNeed q w) a ++ replicate (z - cellsNeed q w) (pos 0)

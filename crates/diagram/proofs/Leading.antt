@@ -27,7 +27,8 @@ use Rattle.lent.proofs.Shape.{Shaped, built-shaped, drops-shaped}
 use Rattle.numbers.proofs.Held.{held-long}
 use Rattle.diagram.specs.Leading.{firstCell, Led, Leads}
 use Rattle.diagram.proofs.Bounds.{source-none}
-use Rattle.diagram.proofs.Along.{Has, On, Turn, led-long, on-start, cost-is, led-right, turn}
+use Rattle.lent.proofs.Brings.{Has}
+use Rattle.diagram.proofs.Along.{On, Turn, led-long, on-start, cost-is, led-right, turn}
 use Rattle.diagram.proofs.Refused.{problem-small}
 
 -- the plan that is shown

@@ -2,7 +2,6 @@
 -- the rounds
 pub mod Rounds
 -- the cells, and the bound that stands there
-pub mod Table
 pub mod Cells
 pub mod Bounds
 -- the way along the plan shown

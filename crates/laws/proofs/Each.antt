@@ -1,5 +1,5 @@
 -- What holds of every element of a list: a statement for each, where a test would not do.
-use mathlib.Core.Path.{_≡_, refl}
+use mathlib.Core.Path.{_≡_, refl, ap}
 use mathlib.Core.List.{List, [], _∷_, _++_, map}
 use mathlib.Core.Bool.{Bool, true, false, cond}
 use Prim.Native.Nat.{ℕ, zero, suc, _+_, _<_}
@@ -88,3 +88,8 @@ module _ {A : Type 0} (t : A → Bool) (P : A → Type 0) where
   pub every-each : ((x : A) → t x ≡ true → P x) → (l : List A) → every t l ≡ true → Each P l
   every-each f [] e = tt
   every-each f (x ∷ l) e = (f x (and-l (t x) (every t l) e), every-each f l (and-r (t x) (every t l) e))
+
+-- tests that agree on each keep the same
+pub keep-each : {A : Type 0} (f g : A → Bool) (l : List A) → Each (λ x. f x ≡ g x) l → keep f l ≡ keep g l
+keep-each f g [] h = refl
+keep-each {A} f g (x ∷ l) h = rw (h .0) (ap (λ (m : List A). cond (g x) (x ∷ m) m) (keep-each f g l (h .1)))

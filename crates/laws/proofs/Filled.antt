@@ -2,13 +2,13 @@
 use mathlib.Core.Path.{_≡_, refl, sym, ap, _∙_}
 use mathlib.Core.List.{List, [], _∷_, _++_, map, append-assoc, append-nil}
 use mathlib.Core.Bool.{Bool, _&&_}
-use Prim.Native.Nat.{ℕ, zero, suc, _+_, _*_, _≤_, _<_}
+use Prim.Native.Nat.{ℕ, zero, suc, _+_, _*_, _-_, _≤_, _<_}
 use native.Mathlib.Nat.{not-suc-le-zero, le-of-suc-le-suc, zero-add, add-zero, suc-add, zero-mul, suc-mul, mul-le-mul-right}
 use native.Mathlib.Numerals.{add-one}
 use native.Mathlib.Omega.{arith}
 use lib.ListN.{length, getD, set, take, drop, replicate, length-map, length-append, length-take}
 use lib.Seq.{paste, paste-suc, drop-drop, take-take, take-append-le, drop-append-add, ext-getD, take-all, take-at, drop-at}
-use Rattle.laws.specs.Lists.{every, padded, parted, gather, from}
+use Rattle.laws.specs.Lists.{every, padded, parted, gather, flat, from}
 use Rattle.laws.proofs.Lists.{getD-map, length-from, getD-from}
 use Rattle.laws.proofs.Each.{Each}
 use Rattle.laws.proofs.Parts.{length-fields}
@@ -163,3 +163,14 @@ padded-full zero z [] e = refl
 padded-full zero z (x ∷ l) e = absurd (omega arith)
 padded-full (suc n) z [] e = absurd (omega arith)
 padded-full (suc n) z (x ∷ l) e = ap (λ m. x ∷ m) (padded-full n z l (omega arith))
+
+-- a list that is filled up, and what fills it
+pub padded-split : {A : Type 0} (n : ℕ) (z : A) (l : List A) → length l ≤ n → padded n z l ≡ l ++ replicate (n - length l) z
+padded-split n z [] h = let o : n - 0 ≡ n = omega arith in rw o (padded-none z n)
+padded-split zero z (x ∷ l) h = absurd (omega arith)
+padded-split {A} (suc n) z (x ∷ l) h = let o : suc n - suc (length l) ≡ n - length l = omega arith in rw o (ap (λ (r : List A). x ∷ r) (padded-split n z l (omega arith)))
+
+-- rows of k elements each, one behind the other: as long as they are many
+pub flat-long : {A : Type 0} (k : ℕ) (l : List (List A)) → Each (λ x. length x ≡ k) l → length (flat l) ≡ length l * k
+flat-long k [] h = sym (zero-mul k)
+flat-long k (x ∷ l) h = length-append x (flat l) ∙ omega (arith, h .0, flat-long k l (h .1), suc-mul (length l) k)

@@ -2,7 +2,7 @@
 use mathlib.Core.Path.{_≡_, refl, sym, _∙_, ap}
 use mathlib.Core.List.{List, [], _∷_, _++_, map}
 use mathlib.Core.Bool.{Bool, true, false, _&&_, _||_, cond, true≢false}
-use Prim.Native.Nat.{ℕ, zero, suc, _+_, _≤_, _<_}
+use Prim.Native.Nat.{ℕ, zero, suc, _+_, _-_, _≤_, _<_}
 use native.Mathlib.Omega.{arith}
 use lib.ListN.{length, getD, take}
 use Rattle.laws.specs.Lists.{keep, every, lastOr, gather, from}
@@ -227,3 +227,66 @@ module _ {A : Type 0} where
       go : (t : Bool) → Ordered f (keep g l) → Ordered f (cond t (x ∷ keep g l) (keep g l))
       go true k = (every-keep (f x) g l (s .0), k)
       go false k = k
+
+-- ---- what is kept of what is gathered
+module _ {A : Type 0} where
+  pub keep-append : (f : A → Bool) (l m : List A) → keep f (l ++ m) ≡ keep f l ++ keep f m
+  keep-append f [] m = refl
+  keep-append f (x ∷ l) m = go (f x) (keep-append f l m)
+    where
+      go : (t : Bool) → keep f (l ++ m) ≡ keep f l ++ keep f m → cond t (x ∷ keep f (l ++ m)) (keep f (l ++ m)) ≡ cond t (x ∷ keep f l) (keep f l) ++ keep f m
+      go true e = ap (λ (r : List A). x ∷ r) e
+      go false e = e
+
+  -- nothing is kept where every test fails
+  pub keep-none : (f : A → Bool) (l : List A) → ((x : A) → f x ≡ false) → keep f l ≡ []
+  keep-none f [] h = refl
+  keep-none f (x ∷ l) h = rw (h x) (keep-none f l h)
+
+  -- two tests, one after the other, are one
+  pub keep-both : (f g : A → Bool) (l : List A) → keep f (keep g l) ≡ keep (λ x. f x && g x) l
+  keep-both f g [] = refl
+  keep-both f g (x ∷ l) = go (f x) (g x) refl (keep-both f g l)
+    where
+      go : (s t : Bool) → f x ≡ s → keep f (keep g l) ≡ keep (λ x. f x && g x) l
+          → keep f (cond t (x ∷ keep g l) (keep g l)) ≡ cond (s && t) (x ∷ keep (λ x. f x && g x) l) (keep (λ x. f x && g x) l)
+      go true true a e = rw a (ap (λ (r : List A). x ∷ r) e)
+      go false true a e = rw a e
+      go true false a e = e
+      go false false a e = e
+
+module _ {A B : Type 0} where
+  pub keep-gather : (f : B → Bool) (g : A → List B) (l : List A) → keep f (gather g l) ≡ gather (λ x. keep f (g x)) l
+  keep-gather f g [] = refl
+  keep-gather f g (x ∷ l) = keep-append f (g x) (gather g l) ∙ ap (λ (r : List B). keep f (g x) ++ r) (keep-gather f g l)
+
+  pub gather-keep : (f : A → Bool) (g : A → List B) (l : List A) → gather g (keep f l) ≡ gather (λ x. cond (f x) (g x) []) l
+  gather-keep f g [] = refl
+  gather-keep f g (x ∷ l) = go (f x) (gather-keep f g l)
+    where
+      go : (t : Bool) → gather g (keep f l) ≡ gather (λ x. cond (f x) (g x) []) l
+          → gather g (cond t (x ∷ keep f l) (keep f l)) ≡ cond t (g x) [] ++ gather (λ x. cond (f x) (g x) []) l
+      go true e = ap (λ (r : List B). g x ++ r) e
+      go false e = e
+
+  pub keep-map : (f : B → Bool) (g : A → B) (l : List A) → keep f (map g l) ≡ map g (keep (λ x. f (g x)) l)
+  keep-map f g [] = refl
+  keep-map f g (x ∷ l) = go (f (g x)) (keep-map f g l)
+    where
+      go : (t : Bool) → keep f (map g l) ≡ map g (keep (λ x. f (g x)) l)
+          → cond t (g x ∷ keep f (map g l)) (keep f (map g l)) ≡ map g (cond t (x ∷ keep (λ x. f (g x)) l) (keep (λ x. f (g x)) l))
+      go true e = ap (λ (r : List B). g x ∷ r) e
+      go false e = e
+
+-- from v on: functions that agree there make the same, and the first d, of which nothing is made, are left out
+pub gather-from : {B : Type 0} (f g : ℕ → List B) (k v : ℕ) → ((u : ℕ) → v ≤ u → f u ≡ g u) → gather f (from v k) ≡ gather g (from v k)
+gather-from f g zero v e = refl
+gather-from {B} f g (suc k) v e = rw (e v (omega arith)) (ap (λ (r : List B). g v ++ r) (gather-from f g k (suc v) (λ u b. e u (omega arith))))
+
+pub gather-skip : {B : Type 0} (f : ℕ → List B) (k d v : ℕ) → ((u : ℕ) → u < v + d → f u ≡ []) → gather f (from v k) ≡ gather f (from (v + d) (k - d))
+gather-skip f zero d v h = let o : 0 - d ≡ 0 = omega arith in rw o refl
+gather-skip f (suc k) zero v h = let o : v + 0 ≡ v = omega arith in let p : suc k - 0 ≡ suc k = omega arith in rw (o, p) refl
+gather-skip f (suc k) (suc d) v h =
+    let o : v + suc d ≡ suc v + d = omega arith in
+    let p : suc k - suc d ≡ k - d = omega arith in
+    rw (h v (omega arith), o, p) (gather-skip f k d (suc v) (λ u b. h u (omega arith)))

@@ -22,7 +22,7 @@ use Rattle.lent.specs.Led.{firstUps}
 use Rattle.lent.specs.Small.{Small, FitPair, Fit, FewBytes}
 
 -- ---- states
-merged-long : (s t : State) → length s ≡ length t → length (mergedState s t) ≡ length s
+pub merged-long : (s t : State) → length s ≡ length t → length (mergedState s t) ≡ length s
 merged-long [] [] e = refl
 merged-long [] (b ∷ t) e = absurd (omega arith)
 merged-long (a ∷ s) [] e = refl

@@ -23,6 +23,10 @@ pub mod Cells
 pub mod Pass
 -- the layers of a whole diagram
 pub mod Whole
+-- arcs bring numbers to their children
+pub mod Brings
+-- what stands at a node's place in a buffer
+pub mod Table
 -- demand 2, over files
 pub mod Demand
 -- building's states are the pairs of the down numbers

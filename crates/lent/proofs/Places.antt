@@ -127,7 +127,7 @@ pub cells-none : (n : ℕ) (d : Numbers) → nodeCells n d none ≡ replicate n 
 cells-none n none = refl
 cells-none n (some d) = refl
 
-cells-at : (n : ℕ) (ds us : List Numbers) (j : ℕ) → getD (layerCells n ds us) j (replicate n (pos 0)) ≡ nodeCells n (getD ds j none) (getD us j none)
+pub cells-at : (n : ℕ) (ds us : List Numbers) (j : ℕ) → getD (layerCells n ds us) j (replicate n (pos 0)) ≡ nodeCells n (getD ds j none) (getD us j none)
 cells-at n [] us j = refl
 cells-at n (d ∷ ds) [] j = sym (cells-none n (getD (d ∷ ds) j none))
 cells-at n (d ∷ ds) (u ∷ us) zero = refl

@@ -5,13 +5,13 @@ use mathlib.Core.Bool.{Bool, true, false, cond}
 use mathlib.Core.Option.{Option, none, some}
 use Prim.Native.Nat.{ℕ, zero, suc, _≤_, _<_}
 use native.Mathlib.Omega.{arith}
-use borrow.Author.Tests.{le-leb, ltb-true}
+use borrow.Author.Tests.{le-leb, leb-true, ltb-true}
 use lib.Dec.{leb, ltb}
 use lib.ListN.{length, getD, replicate}
 use lib.IntN.{ℤ}
 use Rattle.laws.specs.Lists.{every, padded, place}
-use Rattle.laws.proofs.Lists.{and-both}
-use Rattle.laws.proofs.Each.{Each, each-of, each-map, each-every}
+use Rattle.laws.proofs.Lists.{and-l, and-r, and-both}
+use Rattle.laws.proofs.Each.{Each, each-of, each-more, each-map, each-every, every-each}
 use Rattle.meaning.specs.Plan.{Campaign, slots}
 use Rattle.meaning.specs.Diagram.{Node, arrivals, Builder, relaxed, restricted, placeByte, arcByte, sinkByte, has, states, nodesOf, firstAppearance, source, layers, Arcs, built}
 use Rattle.meaning.specs.Filter.{Numbers, begins, downs, upNumbers, eachStep, eachParent, eachSlot, Test, within, stays, over, testArc, drops, rounds}
@@ -22,7 +22,7 @@ use Rattle.lent.proofs.Places.{nextDowns}
 use Rattle.lent.proofs.Wide.{built-sized, built-long, drops-sized, drops-long}
 
 -- ---- no byte leads past the next layer's w nodes, in the last layer past the sink
-abbrev Low : ℕ → List (List ℕ) → Type 0
+abbrev pub Low : ℕ → List (List ℕ) → Type 0
 Low c l = Each (Each (λ b. b ≤ c)) l
 
 abbrev pub Form : ℕ → Arcs → Type 0
@@ -49,6 +49,22 @@ form-true k w (l ∷ []) h = low-true 1 (padded w (replicate k 0) l) (low-wide k
 form-true k w (l ∷ m ∷ ls) h =
     and-both (every (every (λ b. leb b w)) (padded w (replicate k 0) l)) (ofForm w (wide k w (m ∷ ls)))
     (low-true w (padded w (replicate k 0) l) (low-wide k w w l (h .0))) (form-true k w (m ∷ ls) (h .1))
+
+-- as the test says, and so no byte of any layer leads past w nodes
+pub true-low : (c : ℕ) (l : List (List ℕ)) → every (every (λ b. leb b c)) l ≡ true → Low c l
+true-low c l e = every-each (every (λ b. leb b c)) (Each (λ b. b ≤ c)) (λ bs d. every-each (λ b. leb b c) (λ b. b ≤ c) (λ b t. leb-true b c t) bs d) l e
+
+pub form-of : (w : ℕ) (a : Arcs) → ofForm w a ≡ true → Form w a
+form-of w [] e = tt
+form-of w (l ∷ []) e = true-low 1 l e
+form-of w (l ∷ m ∷ ls) e =
+    let first = every (every (λ b. leb b w)) l in
+    (true-low w l (and-l first (ofForm w (m ∷ ls)) e), form-of w (m ∷ ls) (and-r first (ofForm w (m ∷ ls)) e))
+
+pub form-low : (w : ℕ) → 1 ≤ w → (a : Arcs) → Form w a → Each (Low w) a
+form-low w h [] f = tt
+form-low w h (l ∷ []) f = (each-more (Each (λ b. b ≤ 1)) (Each (λ b. b ≤ w)) (λ bs e. each-more (λ b. b ≤ 1) (λ b. b ≤ w) (λ b t. omega arith) bs e) l f, tt)
+form-low w h (l ∷ m ∷ ls) f = (f .0, form-low w h (m ∷ ls) (f .1))
 
 -- ---- as it is built
 module _ (b : Builder) (q : Campaign) (w : ℕ) (some-wide : 0 < w) where

@@ -8,7 +8,7 @@ use native.Mathlib.Omega.{arith}
 use native.Mathlib.Nat.{zero-add, suc-mul}
 use native.Mathlib.Numerals.{add-one}
 use native.Mathlib.Decide.{decLt}
-use borrow.Author.Tests.{ne-eqb, leb-true}
+use borrow.Author.Tests.{ne-eqb}
 use lib.Dec.{leb}
 use lib.ListN.{length, getD, take, drop, replicate, length-map, length-append, length-replicate, length-drop, List·getD-eq-default, drop-of-length-le}
 use lib.Seq.{length-take-le, drop-cons, getD-drop, take-at, drop-at}
@@ -18,7 +18,7 @@ use Rattle.laws.specs.Lists.{every, flat, gather, from, padded, parted}
 use Rattle.laws.proofs.Lists.{and-l, and-r, length-from, getD-map}
 use Rattle.laws.proofs.Parts.{length-fields}
 use Rattle.laws.proofs.Filled.{length-rows, getD-parted, padded-full}
-use Rattle.laws.proofs.Each.{Each, each-at, each-more, each-from, each-gather, each-map, every-each}
+use Rattle.laws.proofs.Each.{Each, each-at, each-more, each-from, each-gather, each-map}
 use Rattle.meaning.specs.Plan.{Campaign}
 use Rattle.meaning.specs.Diagram.{Arcs}
 use Rattle.meaning.specs.Filter.{Numbers, zeros, begins, upNode, ups, downNode, downAt, nodeCount, downs, downNumbers, upNumbers, eachStep, eachParent, eachSlot, Test, testArc, drops}
@@ -29,6 +29,7 @@ use Rattle.lent.specs.Passes.{Row, Bytes, HalfNode, HalfCells, far, brin
 use Rattle.lent.specs.Vec.{vec, slotVec, rowVec, testOf, limitVec}
 use Rattle.lent.specs.Small.{Small, Fit, FewBytes}
 use Rattle.lent.proofs.Places.{padded-same, made-at, no-number-tested, nextDowns, cells-none}
+use Rattle.lent.proofs.Shape.{true-low}
 use Rattle.lent.proofs.Fit.{zeros-fit, downs-fit, ups-fit}
 use Rattle.lent.proofs.Vec.{row-at, row-vec, row-own, row-behind}
 use Rattle.lent.proofs.Downs.{layer-brings}
@@ -56,7 +57,7 @@ flat-blocks : {A B : Type 0} (g : A → List B) (d : A) (x : ℕ → List B) (l 
 flat-blocks g d x l i zero e h = rw (drop-of-length-le l {i = i} (omega arith)) refl
 flat-blocks g d x l i (suc n) e h = rw (drop-cons l i d (omega arith), h i (omega arith), flat-blocks g d x l (suc i) n (omega arith) h)
 
-tail-drop : {A : Type 0} (i : ℕ) (l : List A) → tail (drop i l) ≡ drop (suc i) l
+pub tail-drop : {A : Type 0} (i : ℕ) (l : List A) → tail (drop i l) ≡ drop (suc i) l
 tail-drop zero [] = refl
 tail-drop (suc i) [] = refl
 tail-drop zero (x ∷ l) = refl
@@ -70,11 +71,11 @@ abbrev pub upsAt : Campaign → Arcs → ℕ → List Numbers
 upsAt q a i = getD (upNumbers q a) i []
 
 module _ (q : Campaign) where
-  downs-long : (i : ℕ) (ds : List Numbers) (a : Arcs) → length (downs q i ds a) ≡ suc (length a)
-  downs-long i ds [] = refl
-  downs-long i ds (l ∷ ls) = ap suc (downs-long (suc i) (nextDowns q i ds l ls) ls)
+  pub downs-count : (i : ℕ) (ds : List Numbers) (a : Arcs) → length (downs q i ds a) ≡ suc (length a)
+  downs-count i ds [] = refl
+  downs-count i ds (l ∷ ls) = ap suc (downs-count (suc i) (nextDowns q i ds l ls) ls)
 
-  ups-count : (i : ℕ) (a : Arcs) → length (ups q i a) ≡ suc (length a)
+  pub ups-count : (i : ℕ) (a : Arcs) → length (ups q i a) ≡ suc (length a)
   ups-count i [] = refl
   ups-count i (l ∷ ls) = ap suc (ups-count (suc i) ls)
 
@@ -267,7 +268,7 @@ module _ (q : Campaign) (s : Small q) (w : ℕ) (a : Arcs) (f : Whole w a) where
 
   pub half-blocks : flat (map (λ l. flat (padded w (replicate (nodeNeed q) (pos 0)) (map (λ d. nodeCells (nodeNeed q) d (zeros q)) l))) (downNumbers q a)) ≡ gather (halfBlock q w a) (from 0 (suc (length a)))
   half-blocks =
-      let long = downs-long q 0 (begins q ∷ []) a in
+      let long = downs-count q 0 (begins q ∷ []) a in
       flat-blocks (λ (l : List Numbers). flat (padded w (replicate (nodeNeed q) (pos 0)) (map (λ d. nodeCells (nodeNeed q) d (zeros q)) l))) [] (halfBlock q w a) (downNumbers q a) 0 (suc (length a)) (omega arith)
       (λ j h. ap flat (half-from j 0 w (omega arith) (omega (arith, f .wide))))
 
@@ -298,12 +299,12 @@ module _ (q : Campaign) (s : Small q) (w : ℕ) (a : Arcs) (f : Whole w a) where
   -- ---- the cells behind them, and the bytes that remain
   pub all-blocks : allCells (nodeNeed q) w (downNumbers q a) (upNumbers q a) ≡ gather (cellBlock q w a) (from 0 (suc (length a)))
   all-blocks =
-      let long = downs-long q 0 (begins q ∷ []) a in
+      let long = downs-count q 0 (begins q ∷ []) a in
       cells-blocks (nodeNeed q) w (downNumbers q a) (upNumbers q a) (ups-count q 0 a ∙ sym long) (cellBlock q w a) (λ j. refl) 0 (suc (length a)) (omega arith)
 
   pub laid-blocks : (e : Test) → laid 8 w (drops e q a) ≡ gather (byteBlock e q w a) (from 0 (length a))
   laid-blocks e =
-      bytes-blocks e q w (downNumbers q a) (upNumbers q a) a (downs-long q 0 (begins q ∷ []) a) (byteBlock e q w a)
+      bytes-blocks e q w (downNumbers q a) (upNumbers q a) a (downs-count q 0 (begins q ∷ []) a) (byteBlock e q w a)
       (λ j h. ap flat (sym (rw (f .full j h .long) at (parents-padded e q j (upsAt q a (suc j)) (downsAt q a j) (getD a j []) (f .full j h .bytes))))) 0 (length a) (omega arith)
 
   -- ---- the turns of the passes
@@ -400,15 +401,12 @@ nodes-most w r [] h (suc j) = omega arith
 nodes-most w r (l ∷ ls) h zero = omega (arith, h .0)
 nodes-most w r (l ∷ ls) h (suc j) = nodes-most w r ls (h .1) j
 
-below-each : (c : ℕ) (l : List (List ℕ)) → every (every (λ b. leb b c)) l ≡ true → Each (Each (λ b. b ≤ c)) l
-below-each c l e = every-each (every (λ b. leb b c)) (Each (λ b. b ≤ c)) (λ bs d. every-each (λ b. leb b c) (λ b. b ≤ c) (λ b t. leb-true b c t) bs d) l e
-
 -- "0 to W, for the last slot 0 or 1"
 form-leads : (w : ℕ) (a : Arcs) → Each (λ l. length l ≡ w) a → ofForm w a ≡ true → (j : ℕ) → j < length a → Each (Each (λ b. b ≤ nodeCount (drop (suc j) a))) (getD a j [])
 form-leads w [] h e j b = absurd (omega arith)
-form-leads w (l ∷ []) h e zero b = below-each 1 l e
+form-leads w (l ∷ []) h e zero b = true-low 1 l e
 form-leads w (l ∷ []) h e (suc j) b = absurd (omega arith)
-form-leads w (l ∷ m ∷ ls) h e zero b = rw (h .1 .0) (below-each w l (and-l (every (every (λ b. leb b w)) l) (ofForm w (m ∷ ls)) e))
+form-leads w (l ∷ m ∷ ls) h e zero b = rw (h .1 .0) (true-low w l (and-l (every (every (λ b. leb b w)) l) (ofForm w (m ∷ ls)) e))
 form-leads w (l ∷ m ∷ ls) h e (suc j) b = form-leads w (m ∷ ls) (h .1) (and-r (every (every (λ b. leb b w)) l) (ofForm w (m ∷ ls)) e) j (omega arith)
 
 module _ (n w : ℕ) (b : List ℕ) where

@@ -5,7 +5,7 @@ use mathlib.Core.Bool.{Bool, true, false, cond}
 use mathlib.Core.Option.{Option, none, Option·map}
 use Prim.Native.Nat.{ℕ, zero, suc, _*_, _-_, _≤_, _<_}
 use native.Mathlib.Omega.{arith}
-use native.Mathlib.Nat.{zero-mul, suc-mul, mul-comm, mul-assoc}
+use native.Mathlib.Nat.{mul-comm, mul-assoc}
 use native.Mathlib.Decide.{decLt}
 use borrow.Author.Tests.{leb-true}
 use lib.Dec.{leb}
@@ -16,7 +16,7 @@ use Rattle.laws.specs.Lists.{flat, lastOr, padded, parted}
 use Rattle.laws.proofs.Lists.{length-from, keep-agree}
 use Rattle.laws.proofs.Each.{Each, each-at, each-map}
 use Rattle.laws.proofs.Parts.{parted-append}
-use Rattle.laws.proofs.Filled.{length-padded, take-padded, getD-padded}
+use Rattle.laws.proofs.Filled.{length-padded, take-padded, getD-padded, flat-long}
 use Rattle.meaning.specs.Plan.{Campaign, slots, plans}
 use Rattle.meaning.specs.Diagram.{Node, arrivals, Builder, relaxed, restricted, arcByte, sinkByte, shared, nodesOf, states, firstAppearance, source, layers, Arcs, built}
 use Rattle.meaning.specs.Filter.{Numbers, zeros, upNode, ups, downNode, downAt, nodeCount, downs, begins, downNumbers, upNumbers, eachStep, eachParent, eachSlot, Test, testArc, drops}
@@ -109,10 +109,6 @@ drops-long e q a = go 0 (begins q ∷ []) (upNumbers q a) a
 -- ---- bytes
 -- rows of k elements each, one behind the other, and cut again
 module _ {A : Type 0} (k : ℕ) where
-  flat-long : (l : List (List A)) → Each (λ x. length x ≡ k) l → length (flat l) ≡ length l * k
-  flat-long [] h = sym (zero-mul k)
-  flat-long (x ∷ l) h = length-append x (flat l) ∙ omega (arith, h .0, flat-long l (h .1), suc-mul (length l) k)
-
   pub flat-parted : (l : List (List A)) → Each (λ x. length x ≡ k) l → parted (length l) k (flat l) ≡ l
   flat-parted [] h = refl
   flat-parted (x ∷ l) h = rw (take-at x (flat l) k (h .0), drop-at x (flat l) k (h .0), flat-parted l (h .1))

@@ -4,12 +4,14 @@ use mathlib.Core.List.{List, [], _∷_, _++_, map}
 use mathlib.Core.Bool.{true, false, _&&_, true≢false}
 use Prim.Native.Nat.{ℕ, zero, suc, _<_}
 use native.Mathlib.Omega.{arith}
+use native.Mathlib.Nat.{zero-add}
 use native.Mathlib.Decide.{decLt}
 use lib.Dec.{eqb, ltb}
 use lib.ListN.{length}
 use borrow.Author.Tests.{ltb-true, lt-ltb, le-ltb, eq-eqb, ne-eqb}
 use Rattle.laws.specs.Lists.{every, gather, from}
-use Rattle.laws.proofs.Lists.{and-l, and-r, false-and, or-neither, no-true, In, here, in-map, in-made, every-append, Ordered, ordered-keep}
+use Rattle.laws.proofs.Lists.{and-l, and-r, and-both, false-and, or-neither, no-true, In, here, in-map, in-made, in-kept, every-in, every-append, every-keep, Ordered, ordered-keep}
+use Rattle.laws.proofs.Each.{Each, each-in, each-more, each-map, each-gather, each-from, each-every}
 use Rattle.meaning.specs.Plan.{Campaign, bit, allows, allowed, keepsRule, lawful, stepsOf, plans, after}
 use Rattle.meaning.proofs.Sound.{in-steps}
 
@@ -115,3 +117,21 @@ allowed-length k [] [] e = refl
 allowed-length k [] (v ∷ p) e = absurd (true≢false (sym e))
 allowed-length k (s ∷ ss) [] e = absurd (true≢false (sym e))
 allowed-length k (s ∷ ss) (v ∷ p) e = ap suc (allowed-length k ss p (and-r (allows k s v) (allowed k ss p) e))
+
+-- ---- and each that is there is allowed; so it has a step for each set
+steps-allowed : (k s : ℕ) → Each (λ v. allows k s v ≡ true) (stepsOf k s)
+steps-allowed k s =
+    let below : every (λ v. ltb v k) (from 0 k) ≡ true = each-every (λ v. ltb v k) (λ v. v < k) (λ v h. lt-ltb v k h) (from 0 k) (each-from (λ v. v < k) 0 k (λ v h. rw zero-add at h)) in
+    each-in (λ v. allows k s v ≡ true) (stepsOf k s)
+    (λ v m. and-both (ltb v k) (bit s v) (every-in (λ v. ltb v k) (stepsOf k s) (every-keep (λ v. ltb v k) (bit s) (from 0 k) below) m) (in-kept (bit s) (from 0 k) m))
+
+pub plans-allowed : (k : ℕ) (ss : List ℕ) → Each (λ p. allowed k ss p ≡ true) (plans k ss)
+plans-allowed k [] = (refl, tt)
+plans-allowed k (s ∷ ss) =
+    let rest = plans k ss in
+    each-gather (λ v. allows k s v ≡ true) (λ p. allowed k (s ∷ ss) p ≡ true) (λ v. map (λ p. v ∷ p) rest)
+    (λ v h. each-map (λ p. allowed k ss p ≡ true) (λ p. allowed k (s ∷ ss) p ≡ true) (λ p. v ∷ p) (λ p e. and-both (allows k s v) (allowed k ss p) h e) rest (plans-allowed k ss))
+    (stepsOf k s) (steps-allowed k s)
+
+pub plans-long : (k : ℕ) (ss : List ℕ) → Each (λ p. length p ≡ length ss) (plans k ss)
+plans-long k ss = each-more (λ p. allowed k ss p ≡ true) (λ p. length p ≡ length ss) (allowed-length k ss) (plans k ss) (plans-allowed k ss)

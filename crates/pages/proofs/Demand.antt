@@ -5,12 +5,12 @@ use mathlib.Core.List.{List, [], _∷_, _++_, map}
 use mathlib.Core.Bool.{Bool, true, false, not, _&&_, cond}
 use mathlib.Core.Logic.{inl, inr}
 use Prim.Native.Nat.{ℕ, zero, suc, min, _*_, _-_, _/_, _≤_, _<_}
-use native.Mathlib.Nat.{div-mul-le-self, le-div-iff-mul-le, mul-le-mul-right, one-mul, zero-mul, suc-mul}
+use native.Mathlib.Nat.{div-mul-le-self, le-div-iff-mul-le, mul-le-mul-right, one-mul}
 use native.Mathlib.Decide.{decLt}
 use native.Mathlib.Omega.{arith}
 use borrow.Author.Tests.{eqb-true, eq-eqb, lt-ltb, le-ltb}
 use lib.Dec.{eqb, ltb}
-use lib.ListN.{length, take, drop, replicate, length-append, length-take, length-map}
+use lib.ListN.{length, take, drop, replicate, length-take, length-map}
 use lib.Seq.{drop-at}
 use lib.IntN.{ℤ}
 use lib.Signed.{leZ, _≤ℤ_}
@@ -19,6 +19,7 @@ use Rattle.laws.specs.Lists.{keep, every, lastOr, flat, padded, parted}
 use Rattle.laws.proofs.Lists.{and-l, and-r, and-both, In, here, there, in-keep, in-kept, in-either, every-in, every-keep, every-kept, Ordered, ordered-keep}
 use Rattle.laws.proofs.Each.{Each, each-in, each-take, each-every, each-map}
 use Rattle.laws.proofs.Parts.{parted-append}
+use Rattle.laws.proofs.Filled.{padded-split, flat-long}
 use Rattle.meaning.specs.Plan.{Campaign, slots, plans, lawful, lawfuls, cost, after}
 use Rattle.meaning.specs.Problem.{Problem, campaign, version1}
 use Rattle.meaning.specs.File.{Got, readOf, refused, got}
@@ -33,17 +34,12 @@ use Rattle.meaning.proofs.Doors.{Door, served, RightNumbers, RightStart, Enough
 use Rattle.meaning.proofs.Pages.{listed-are, pages-ended, pages-all}
 use Rattle.lent.proofs.Wide.{flat-parted}
 use Rattle.lent.proofs.Demand.{Accepted}
-use Rattle.step.proofs.Steps.{padded-is}
 use Rattle.pages.specs.Drawn.{plansOn, asked, pagesDrawn, allServed, noMore, plansDrawn}
 
 -- ---- plans in bytes: n to a plan, one behind the other, the rest zero
-flat-long : (n : ℕ) (ps : List (List ℕ)) → Each (λ p. length p ≡ n) ps → length (flat ps) ≡ length ps * n
-flat-long n [] h = sym (zero-mul n)
-flat-long n (p ∷ ps) h = length-append p (flat ps) ∙ omega (arith, h .0, flat-long n ps (h .1), suc-mul (length ps) n)
-
 module _ (n z : ℕ) (ps : List (List ℕ)) (h : Each (λ p. length p ≡ n) ps) (room : length ps * n ≤ z) where
   bytes-are : padded z 0 (flat ps) ≡ flat ps ++ replicate (z - length ps * n) 0
-  bytes-are = padded-is z 0 (flat ps) (omega (arith, flat-long n ps h)) ∙ ap (λ k. flat ps ++ replicate (z - k) 0) (flat-long n ps h)
+  bytes-are = padded-split z 0 (flat ps) (omega (arith, flat-long n ps h)) ∙ ap (λ k. flat ps ++ replicate (z - k) 0) (flat-long n ps h)
 
   -- read again, part by part
   plans-read : parted (length ps) n (padded z 0 (flat ps)) ≡ ps

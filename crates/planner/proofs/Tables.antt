@@ -8,7 +8,7 @@ use native.Mathlib.Numerals.{add-one}
 use borrow.Author.Tests.{ltb-true, eqb-true}
 use lib.Dec.{ltb, eqb}
 use lib.ListN.{length, getD, set, take, replicate}
-use Rattle.laws.specs.Lists.{padded, every, from}
+use Rattle.laws.specs.Lists.{padded, from}
 use Rattle.laws.proofs.Lists.{and-l, and-r, in-from, every-in}
 use Rattle.planner.specs.Sample.{samplePairs}
 

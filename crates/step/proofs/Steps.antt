@@ -2,7 +2,7 @@
 use mathlib.Core.Path.{_≡_, refl, sym, ap, _∙_}
 use mathlib.Core.List.{List, [], _∷_, _++_, append-assoc, append-nil}
 use mathlib.Core.Bool.{Bool, true, false, _&&_}
-use Prim.Native.Nat.{ℕ, zero, suc, _+_, _*_, _-_, _≤_, _<_}
+use Prim.Native.Nat.{ℕ, suc, _+_, _*_, _-_, _≤_, _<_}
 use native.Mathlib.Nat.{suc-mul, zero-add, mul-le-mul, mul-le-mul-right}
 use native.Mathlib.Numerals.{add-one}
 use native.Mathlib.Omega.{arith}
@@ -18,7 +18,7 @@ use mir.Facts.{toZ-ofZ}
 use Rattle.laws.specs.Z.{Within, zarith, back, back-is, sum32, sum-within}
 use Rattle.laws.specs.Lists.{gather, from, padded}
 use Rattle.laws.proofs.Lists.{and-false, length-from, from-more}
-use Rattle.laws.proofs.Filled.{padded-none, padded-more, padded-full, length-rows, gather-more}
+use Rattle.laws.proofs.Filled.{padded-more, padded-full, length-rows, gather-more}
 use Rattle.lanes.proofs.Laws.{length-zipped, zipped-at}
 use Rattle.slot.specs.Rows.{laneOf, lanesOf}
 use Rattle.slot.proofs.Laws.{lanes-long, lanes-at}
@@ -163,14 +163,6 @@ module _ (n cap : ℕ) (page : List ℕ) (seen : ℕ) (plan : List ℕ) {later :
 
   pub put-full : seen ≤ cap → cap ≤ seen → later ≡ page → record { page = later; seen = seen + 1 } ≡ laying n cap (record { page = page; seen = seen }) plan
   put-full k h e = rw (le-ltb seen cap h, le-ltb cap seen k, e, add-one) refl
-
--- ---- a list filled up: as many zeros behind it as are missing
-pub padded-is : {A : Type 0} (n : ℕ) (z : A) (l : List A) → length l ≤ n → padded n z l ≡ l ++ replicate (n - length l) z
-padded-is n z [] h = let o : n - 0 ≡ n = omega arith in rw o (padded-none z n)
-padded-is zero z (x ∷ l) h = absurd (omega arith)
-padded-is (suc n) z (x ∷ l) h =
-    let o : suc n - suc (length l) ≡ n - length l = omega arith in
-    rw o (ap (λ r. x ∷ r) (padded-is n z l (omega arith)))
 
 -- ---- a table of rows of eight: i rows are laid, and r entries of the next
 module _ {A : Type 0} (n : ℕ) (z : A) (f : ℕ → List A) (wide : (i : ℕ) → length (f i) ≡ 8) (i : ℕ) where

@@ -14,7 +14,7 @@ use lib.IntN.{ℤ, pos, _+ℤ_, _-ℤ_, _*ℤ_}
 use lib.Signed.{leZ}
 use Rattle.laws.specs.Z.{zarith, sum}
 use Rattle.laws.specs.Lists.{keep, from, parted}
-use Rattle.laws.proofs.Lists.{and-l, and-r, and-both, no-true, every-in, in-from}
+use Rattle.laws.proofs.Lists.{and-l, and-r, and-both, no-true, every-in, in-from, keep-none}
 use Rattle.laws.proofs.Each.{Each, each-at, each-from, each-every}
 use Rattle.laws.proofs.Filled.{take-within, getD-parted}
 use Rattle.meaning.specs.Plan.{Rule, Campaign, slots, bit, allows, summed, total, plans}
@@ -28,10 +28,12 @@ use Rattle.lent.specs.Lanes.{zipped, sums}
 use Rattle.lent.specs.Led.{firstUps}
 use Rattle.lent.proofs.Led.{ups-at}
 use Rattle.lent.proofs.Whole.{Whole, layers-long, layer-at, bytes-whole, down-first, up-last}
+use Rattle.lent.proofs.Brings.{has-not, has-some, arc-brings}
 use Rattle.slot.specs.Rows.{lanesOf}
-use Rattle.walk.specs.Beginnings.{keepsFrom, fits, behind, rests, added, onto, stepRests, Walkable, Steers, Stands}
+use Rattle.walk.specs.Beginnings.{keepsFrom, fits, behind, rests, Walkable, Steers, Stands}
 use Rattle.step.specs.Steps.{firstOf, isOpen, mayKeep, withShares}
-use Rattle.walk.proofs.Nodes.{origin, downOf, upOf, low-up, high-up, cost-up, arc-brings}
+use Rattle.walk.proofs.Rests.{added, onto, stepRests}
+use Rattle.walk.proofs.Nodes.{origin, downOf, upOf, low-up, high-up, cost-up}
 
 -- ---- totals with the shares of a step
 added-sums : (rs : List Rule) (i v : ℕ) (ts : List ℤ) → added rs i v ts ≡ sums ts (map (λ r. r .share i v) rs)
@@ -86,11 +88,7 @@ test-keeps (x ∷ rs) i (t ∷ ts) h =
     (and-both (leZ (x .lb) z) (leZ z (x .ub)) (and-r (leZ z (x .ub)) (leZ (x .lb) z) own) (and-l (leZ z (x .ub)) (leZ (x .lb) z) own))
     (test-keeps rs i ts (λ r b. h (suc r) (omega arith)))
 
--- ---- lists and tests
-keep-none : {A : Type 0} (f : A → Bool) (l : List A) → ((x : A) → f x ≡ true → ⊥) → keep f l ≡ []
-keep-none f [] h = refl
-keep-none f (x ∷ l) h = rw (no-true (f x) (h x)) (keep-none f l h)
-
+-- ---- tests
 not-true : (t : Bool) → not t ≡ true → t ≡ false
 not-true true e = absurd (true≢false (sym e))
 not-true false e = refl
@@ -220,7 +218,7 @@ module _ (q : Campaign) (a : Arcs) (n m w : ℕ) (sets : List ℕ) (weights lb u
 
       -- arcs lead there
       child-reached : downOf q a (suc i) k ≡ none → ⊥
-      child-reached = arc-brings q a i j v k there below arc (st .reached)
+      child-reached = has-not (arc-brings q a i j v k there below arc (has-some (downOf q a i j) (st .reached)))
 
       place : (i + 1) * w + byte - 1 ≡ suc i * w + k
       place =
@@ -290,7 +288,7 @@ module _ (q : Campaign) (a : Arcs) (n m w : ℕ) (sets : List ℕ) (weights lb u
 
       -- so where one of them fails there is no rest
       no-rest : (own : Bool) (s : List ℕ) → (Passes → ⊥) → rests q a (suc i) k (take m here) rest own s ≡ []
-      no-rest own s h = ap (keep (behind own s)) (keep-none (fits q (suc i) (drop (suc i) a) k (take m here) rest) (plans (q .steps) (drop (suc i) (q .sets))) (λ p x. h (passes p x)))
+      no-rest own s h = ap (keep (behind own s)) (keep-none (fits q (suc i) (drop (suc i) a) k (take m here) rest) (plans (q .steps) (drop (suc i) (q .sets))) (λ p. no-true (fits q (suc i) (drop (suc i) a) k (take m here) rest p) (λ x. h (passes p x))))
 
     -- no rest begins with a step that is not open
     pub shut : (own : Bool) (s : List ℕ) → Stands q a i j (take m totals) c → opens ≡ false → stepRests q a i j (take m totals) c own s v ≡ []

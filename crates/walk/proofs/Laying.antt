@@ -1,5 +1,5 @@
 -- What stands on a page when plans have come by one after the other, and how many came?
-use mathlib.Core.Path.{_≡_, refl, sym, ap, _∙_}
+use mathlib.Core.Path.{_≡_, refl, sym, _∙_}
 use mathlib.Core.List.{List, [], _∷_, _++_, append-assoc, append-nil}
 use mathlib.Core.Bool.{Bool, true, false, cond}
 use Prim.Native.Nat.{ℕ, zero, suc, min, _+_, _*_, _-_, _≤_, _<_}
@@ -8,11 +8,11 @@ use native.Mathlib.Decide.{decLt}
 use native.Mathlib.Omega.{arith}
 use borrow.Author.Tests.{ltb-true, ltb-false, lt-ltb, le-ltb}
 use lib.Dec.{ltb}
-use lib.ListN.{length, take, replicate, length-append, length-take}
+use lib.ListN.{length, take, replicate, length-take}
 use lib.Seq.{paste, take-all, take-paste, length-paste}
 use Rattle.laws.specs.Lists.{flat, padded}
 use Rattle.laws.proofs.Each.{Each, each-take}
-use Rattle.laws.proofs.Filled.{padded-none}
+use Rattle.laws.proofs.Filled.{padded-split, flat-long}
 use Rattle.walk.specs.Beginnings.{layAll}
 use Rattle.step.specs.Steps.{Laid, laying}
 
@@ -76,17 +76,6 @@ stands n cap (p ∷ ps) k page h room e = elim (decLt k cap) [
       }
 ]
 
--- the plans that are written are as long as they are many
-flat-long : (n : ℕ) (ps : List (List ℕ)) → Each (λ p. length p ≡ n) ps → length (flat ps) ≡ length ps * n
-flat-long n [] e = sym (zero-mul n)
-flat-long n (p ∷ ps) e = length-append p (flat ps) ∙ omega (arith, e .0, flat-long n ps (e .1), suc-mul (length ps) n)
-
--- a list, and zeros to the end
-zeros-behind : (n : ℕ) (l : List ℕ) → length l ≤ n → l ++ replicate (n - length l) 0 ≡ padded n 0 l
-zeros-behind n [] h = let o : n - 0 ≡ n = omega arith in rw o (sym (padded-none 0 n))
-zeros-behind zero (x ∷ l) h = absurd (omega arith)
-zeros-behind (suc n) (x ∷ l) h = let o : suc n - suc (length l) ≡ n - length l = omega arith in rw o (ap (λ (r : List ℕ). x ∷ r) (zeros-behind n l (omega arith)))
-
 -- ---- from the first plan on: how many are written, whether there are more, what stands on the page, and how long it is
 module _ (n cap : ℕ) (page : List ℕ) (ps : List (List ℕ)) (room : cap * n ≤ length page) (each : Each (λ p. length p ≡ n) ps) where
   abbrev pub end : Laid
@@ -117,7 +106,7 @@ module _ (n cap : ℕ) (page : List ℕ) (ps : List (List ℕ)) (room : cap * n 
       let first : take (length (take cap ps) * n) (end .page) ≡ flat (take cap ps) = rw (zero-add, zero-mul n, all-of) at (all .page-is) in
       let long : length (flat (take cap ps)) ≡ length (take cap ps) * n = flat-long n (take cap ps) (each-take (λ p. length p ≡ n) cap ps each) in
       let fits : length (take cap ps) ≤ cap = omega (arith, length-take cap ps) in
-      rw (first, ← long) (zeros-behind (length page) (flat (take cap ps)) (omega (arith, mul-le-mul-right n fits)))
+      rw (first, ← long) (sym (padded-split (length page) 0 (flat (take cap ps)) (omega (arith, mul-le-mul-right n fits))))
 
   pub lay-long : length (end .page) ≡ length page
   lay-long = all .long

@@ -3,7 +3,7 @@
 pub mod Laying
 -- the rests of a beginning, step by step
 pub mod Rests
--- the cells of a node, and what an arc brings down
+-- the cells of a node
 pub mod Nodes
 -- the numbers of the arcs lose nothing
 pub mod Guided

@@ -2,19 +2,17 @@
 use mathlib.Core.List.{List, [], _∷_}
 use mathlib.Core.Bool.{true, true≢false}
 use mathlib.Core.Path.{_≡_, refl, sym, _∙_, ap}
-use Prim.Native.Nat.{ℕ, zero, suc, _+_, _*_, _-_, _/_, _%_, _^_, _≤_, _<_}
+use Prim.Native.Nat.{ℕ, zero, suc, _+_, _*_, _-_, _/_, _^_, _≤_, _<_}
 use native.Mathlib.Nat.{mul-le-mul-left, mul-le-mul-right, suc-mul, mul-assoc, mod-lt}
 use native.Mathlib.Numerals.{add-one}
 use native.Mathlib.Omega.{arith}
-use lib.IntN.{ℤ, pos, natAbs, _+ℤ_, _-ℤ_, _*ℤ_}
+use lib.IntN.{ℤ, _-ℤ_}
 use lib.ListN.{length, getD, take, drop, length-drop}
 use lib.Seq.{length-take-le}
-use mir.Syntax.{w32}
-use mir.Val.{SFits}
-use Rattle.laws.specs.Z.{Within, sum-within, mul-within, back, neg, parts}
+use Rattle.laws.specs.Z.{Within, sum-within}
 use Rattle.laws.proofs.Each.{Each, each-at, each-take, each-drop, each-more}
 use Rattle.lent.specs.Lanes.{sums}
-use Rattle.slot.specs.Rows.{laneOf, lanesOf}
+use Rattle.slot.specs.Rows.{lanesOf}
 use Rattle.slot.proofs.Laws.{lane-within, lanes-long}
 use Rattle.state.proofs.Sizes.{neg-size}
 use Rattle.walk.specs.Beginnings.{Walkable}

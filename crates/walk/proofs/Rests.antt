@@ -2,93 +2,52 @@
 use mathlib.Core.Path.{_≡_, refl, sym, ap, _∙_}
 use mathlib.Core.List.{List, [], _∷_, _++_, map}
 use mathlib.Core.Bool.{Bool, true, false, _&&_, cond}
-use Prim.Native.Nat.{ℕ, zero, suc, _+_, _-_, _≤_, _<_}
+use Prim.Native.Nat.{ℕ, zero, suc, _-_, _≤_, _<_}
 use native.Mathlib.Nat.{zero-add}
 use native.Mathlib.Decide.{decLt}
 use native.Mathlib.Omega.{arith}
 use borrow.Author.Tests.{lt-ltb, le-ltb, eq-eqb, ne-eqb}
-use lib.Dec.{eqb, ltb}
+use lib.Dec.{eqb}
 use lib.ListN.{length, getD, drop, replicate, length-drop, drop-of-length-le}
 use lib.Seq.{drop-cons}
 use lib.IntN.{ℤ, pos, _+ℤ_, _-ℤ_}
 use lib.Signed.{leZ}
 use Rattle.laws.specs.Z.{zarith, sum, dif, assoc}
 use Rattle.laws.specs.Lists.{keep, every, gather, from}
-use Rattle.laws.proofs.Lists.{and-both, in-kept, every-in, every-keep, keep-agree}
-use Rattle.laws.proofs.Each.{Each, each-in, each-more, each-map, each-gather, each-keep, each-from, each-every}
-use Rattle.meaning.specs.Plan.{Rule, Campaign, slots, bit, allowed, allows, summed, total, keepsRule, lawful, cost, stepsOf, plans, after}
+use Rattle.laws.proofs.Lists.{keep-agree, keep-none, keep-both, keep-gather, gather-keep, keep-map, gather-from, gather-skip}
+use Rattle.laws.proofs.Each.{Each, each-more, each-keep, keep-each}
+use Rattle.meaning.specs.Plan.{Rule, Campaign, slots, bit, allowed, summed, total, keepsRule, lawful, cost, plans, after}
 use Rattle.meaning.specs.Diagram.{Arcs}
 use Rattle.meaning.specs.Filter.{onPath, swept}
 use Rattle.meaning.specs.Bound.{isPath, arcAt}
 use Rattle.meaning.specs.Page.{wanted, listed, walked}
-use Rattle.meaning.proofs.Order.{allowed-length}
+use Rattle.meaning.proofs.Order.{allowed-length, plans-allowed, plans-long}
 use Rattle.meaning.proofs.Walks.{fewer-walks}
 use Rattle.meaning.proofs.Drops.{drops-fewer}
 use Rattle.meaning.proofs.Keeps.{dropped}
-use Rattle.walk.specs.Beginnings.{keepsFrom, fits, behind, rests, added, onto, stepRests, fromStep}
+use Rattle.walk.specs.Beginnings.{keepsFrom, fits, behind, rests}
 use Rattle.step.specs.Steps.{firstOf}
 
--- ---- what is kept of what is gathered
-module _ {A : Type 0} where
-  keep-append : (f : A → Bool) (l m : List A) → keep f (l ++ m) ≡ keep f l ++ keep f m
-  keep-append f [] m = refl
-  keep-append f (x ∷ l) m = go (f x) (keep-append f l m)
-    where
-      go : (t : Bool) → keep f (l ++ m) ≡ keep f l ++ keep f m → cond t (x ∷ keep f (l ++ m)) (keep f (l ++ m)) ≡ cond t (x ∷ keep f l) (keep f l) ++ keep f m
-      go true e = ap (λ (r : List A). x ∷ r) e
-      go false e = e
+-- ---- the rests step by step
+-- each rule's total with its share of slot i and step v
+abbrev pub added : List Rule → ℕ → ℕ → List ℤ → List ℤ
+added [] i v ts = []
+added (r ∷ rs) i v [] = []
+added (r ∷ rs) i v (t ∷ ts) = (t +ℤ r .share i v) ∷ added rs i v ts
 
-  keep-none : (f : A → Bool) (l : List A) → ((x : A) → f x ≡ false) → keep f l ≡ []
-  keep-none f [] h = refl
-  keep-none f (x ∷ l) h = rw (h x) (keep-none f l h)
+-- the rests that begin with step v: along its arc, if the slot allows it
+abbrev pub onto : Campaign → Arcs → ℕ → List ℤ → ℤ → Bool → List ℕ → ℕ → ℕ → List (List ℕ)
+onto q a i ts c own s v zero = []
+onto q a i ts c own s v (suc k) =
+    let rest = rests q a (suc i) k (added (q .rules) i v ts) (c -ℤ q .price i v) (own && eqb v (firstOf own s)) (drop 1 s) in
+    map (λ p. v ∷ p) rest
 
-  -- two tests, one after the other, are one
-  keep-both : (f g : A → Bool) (l : List A) → keep f (keep g l) ≡ keep (λ x. f x && g x) l
-  keep-both f g [] = refl
-  keep-both f g (x ∷ l) = go (f x) (g x) refl (keep-both f g l)
-    where
-      go : (s t : Bool) → f x ≡ s → keep f (keep g l) ≡ keep (λ x. f x && g x) l
-          → keep f (cond t (x ∷ keep g l) (keep g l)) ≡ cond (s && t) (x ∷ keep (λ x. f x && g x) l) (keep (λ x. f x && g x) l)
-      go true true a e = rw a (ap (λ (r : List A). x ∷ r) e)
-      go false true a e = rw a e
-      go true false a e = e
-      go false false a e = e
+abbrev pub stepRests : Campaign → Arcs → ℕ → ℕ → List ℤ → ℤ → Bool → List ℕ → ℕ → List (List ℕ)
+stepRests q a i j ts c own s v = cond (bit (getD (q .sets) i 0) v) (onto q a i ts c own s v (arcAt a i j v)) []
 
-module _ {A B : Type 0} where
-  keep-gather : (f : B → Bool) (g : A → List B) (l : List A) → keep f (gather g l) ≡ gather (λ x. keep f (g x)) l
-  keep-gather f g [] = refl
-  keep-gather f g (x ∷ l) = keep-append f (g x) (gather g l) ∙ ap (λ (r : List B). keep f (g x) ++ r) (keep-gather f g l)
-
-  gather-keep : (f : A → Bool) (g : A → List B) (l : List A) → gather g (keep f l) ≡ gather (λ x. cond (f x) (g x) []) l
-  gather-keep f g [] = refl
-  gather-keep f g (x ∷ l) = go (f x) (gather-keep f g l)
-    where
-      go : (t : Bool) → gather g (keep f l) ≡ gather (λ x. cond (f x) (g x) []) l
-          → gather g (cond t (x ∷ keep f l) (keep f l)) ≡ cond t (g x) [] ++ gather (λ x. cond (f x) (g x) []) l
-      go true e = ap (λ (r : List B). g x ++ r) e
-      go false e = e
-
-  keep-map : (f : B → Bool) (g : A → B) (l : List A) → keep f (map g l) ≡ map g (keep (λ x. f (g x)) l)
-  keep-map f g [] = refl
-  keep-map f g (x ∷ l) = go (f (g x)) (keep-map f g l)
-    where
-      go : (t : Bool) → keep f (map g l) ≡ map g (keep (λ x. f (g x)) l)
-          → cond t (g x ∷ keep f (map g l)) (keep f (map g l)) ≡ map g (cond t (x ∷ keep (λ x. f (g x)) l) (keep (λ x. f (g x)) l))
-      go true e = ap (λ (r : List B). g x ∷ r) e
-      go false e = e
-
--- from v on: functions that agree there make the same, and the first d, of which nothing is made, are left out
-gather-same : {B : Type 0} (f g : ℕ → List B) (k v : ℕ) → ((u : ℕ) → v ≤ u → f u ≡ g u) → gather f (from v k) ≡ gather g (from v k)
-gather-same f g zero v e = refl
-gather-same {B} f g (suc k) v e = rw (e v (omega arith)) (ap (λ (r : List B). g v ++ r) (gather-same f g k (suc v) (λ u b. e u (omega arith))))
-
-gather-skip : {B : Type 0} (f : ℕ → List B) (k d v : ℕ) → ((u : ℕ) → u < v + d → f u ≡ []) → gather f (from v k) ≡ gather f (from (v + d) (k - d))
-gather-skip f zero d v h = let o : 0 - d ≡ 0 = omega arith in rw o refl
-gather-skip f (suc k) zero v h = let o : v + 0 ≡ v = omega arith in let p : suc k - 0 ≡ suc k = omega arith in rw (o, p) refl
-gather-skip f (suc k) (suc d) v h =
-    let o : v + suc d ≡ suc v + d = omega arith in
-    let p : suc k - suc d ≡ k - d = omega arith in
-    rw (h v (omega arith), o, p) (gather-skip f k d (suc v) (λ u b. h u (omega arith)))
+-- of the steps from v on, k of them
+abbrev pub fromStep : Campaign → Arcs → ℕ → ℕ → List ℤ → ℤ → Bool → List ℕ → ℕ → ℕ → List (List ℕ)
+fromStep q a i j ts c own s v k = gather (stepRests q a i j ts c own s) (from v k)
 
 -- ---- a step, and the rest behind it
 -- each rule's total with the share of the step, and then what the rest adds
@@ -197,7 +156,7 @@ module _ (q : Campaign) (a : Arcs) (i j : ℕ) (ts : List ℤ) (c : ℤ) (own : 
       ∙ gather-keep (bit set) along-step (from 0 8)
       ∙ gather-skip made 8 first 0 (λ v h. none-made (bit set v) v (step-none v n (rw zero-add at h)))
       ∙ ap (λ v. gather made (from v (8 - first))) (zero-add first)
-      ∙ gather-same made (stepRests q a i j ts c own s) (8 - first) first (λ v h. ap (λ (r : List (List ℕ)). cond (bit set v) r []) (step-some v (omega arith) n h))
+      ∙ gather-from made (stepRests q a i j ts c own s) (8 - first) first (λ v h. ap (λ (r : List (List ℕ)). cond (bit set v) r []) (step-some v (omega arith) n h))
     where
       none-made : (t : Bool) (v : ℕ) → along-step v ≡ [] → cond t (along-step v) [] ≡ []
       none-made true v e = e
@@ -222,24 +181,7 @@ rests-end q a i j ts c own e l h =
     go true = refl
     go false = refl
 
--- ---- all plans are allowed; so a rest has a step for each set
-steps-allowed : (k s : ℕ) → Each (λ v. allows k s v ≡ true) (stepsOf k s)
-steps-allowed k s =
-    let below : every (λ v. ltb v k) (from 0 k) ≡ true = each-every (λ v. ltb v k) (λ v. v < k) (λ v h. lt-ltb v k h) (from 0 k) (each-from (λ v. v < k) 0 k (λ v h. rw zero-add at h)) in
-    each-in (λ v. allows k s v ≡ true) (stepsOf k s)
-    (λ v m. and-both (ltb v k) (bit s v) (every-in (λ v. ltb v k) (stepsOf k s) (every-keep (λ v. ltb v k) (bit s) (from 0 k) below) m) (in-kept (bit s) (from 0 k) m))
-
-plans-allowed : (k : ℕ) (ss : List ℕ) → Each (λ p. allowed k ss p ≡ true) (plans k ss)
-plans-allowed k [] = (refl, tt)
-plans-allowed k (s ∷ ss) =
-    let rest = plans k ss in
-    each-gather (λ v. allows k s v ≡ true) (λ p. allowed k (s ∷ ss) p ≡ true) (λ v. map (λ p. v ∷ p) rest)
-    (λ v h. each-map (λ p. allowed k ss p ≡ true) (λ p. allowed k (s ∷ ss) p ≡ true) (λ p. v ∷ p) (λ p e. and-both (allows k s v) (allowed k ss p) h e) rest (plans-allowed k ss))
-    (stepsOf k s) (steps-allowed k s)
-
-plans-long : (k : ℕ) (ss : List ℕ) → Each (λ p. length p ≡ length ss) (plans k ss)
-plans-long k ss = each-more (λ p. allowed k ss p ≡ true) (λ p. length p ≡ length ss) (allowed-length k ss) (plans k ss) (plans-allowed k ss)
-
+-- ---- a rest has a step for each set
 pub rests-long : (q : Campaign) (a : Arcs) (i j : ℕ) (ts : List ℤ) (c : ℤ) (own : Bool) (s : List ℕ) → Each (λ p. length p ≡ slots q - i) (rests q a i j ts c own s)
 rests-long q a i j ts c own s =
     let all = plans (q .steps) (drop i (q .sets)) in
@@ -248,11 +190,6 @@ rests-long q a i j ts c own s =
     (each-keep (λ p. length p ≡ slots q - i) (fits q i (drop i a) j ts c) all all-long)
 
 -- ---- the whole walk, from the source
--- tests that agree on each keep the same
-keep-each : {A : Type 0} (f g : A → Bool) (l : List A) → Each (λ x. f x ≡ g x) l → keep f l ≡ keep g l
-keep-each f g [] h = refl
-keep-each {A} f g (x ∷ l) h = rw (h .0) (ap (λ (m : List A). cond (g x) (x ∷ m) m) (keep-each f g l (h .1)))
-
 -- from zero on, a rest keeps the rules as a plan does
 keeps-all : (rs : List Rule) (p : List ℕ) → Each (λ r. r .start ≡ pos 0) rs → keepsFrom rs 0 (replicate (length rs) (pos 0)) p ≡ every (keepsRule p) rs
 keeps-all [] p h = refl

@@ -1,27 +1,27 @@
 -- Do the buffers of a problem without fault steer the walk, and is what the recursion lays the page asked for?
 use mathlib.Core.Path.{_≡_, refl, sym, ap, subst, _∙_}
 use mathlib.Core.Logic.{_⊎_, ⊎-elim}
-use mathlib.Core.List.{List, [], _∷_, _++_, map, map-id, append-nil}
-use mathlib.Core.Bool.{Bool, true, not, cond}
-use mathlib.Core.Option.{none, some}
+use mathlib.Core.List.{List, [], _∷_, _++_, map, map-id}
+use mathlib.Core.Bool.{Bool, not, cond}
+use mathlib.Core.Option.{none}
 use Prim.Native.Nat.{ℕ, zero, suc, _+_, _*_, _-_, _≤_, _<_}
 use native.Mathlib.Omega.{arith}
 use native.Mathlib.Nat.{zero-add, zero-mul, suc-mul, mul-assoc}
-use borrow.Author.Tests.{leb-true, eq-eqb, ne-eqb}
-use lib.Dec.{leb, eqb, ltb}
-use lib.ListN.{length, getD, take, drop, replicate, length-append, length-replicate, length-drop, length-map, take-append-drop, drop-of-length-le}
+use borrow.Author.Tests.{eq-eqb, ne-eqb}
+use lib.Dec.{eqb, ltb}
+use lib.ListN.{length, getD, take, drop, replicate, length-append, length-drop, length-map, take-append-drop}
 use lib.Seq.{length-take-le, take-at, take-all, take-append-le, getD-take}
 use lib.IntN.{ℤ, pos, negℤ, _*ℤ_}
 use Rattle.laws.specs.Z.{Within}
-use Rattle.laws.specs.Lists.{every, flat, gather, from, padded, parted}
-use Rattle.laws.proofs.Lists.{and-l, and-r, length-from, getD-from}
-use Rattle.laws.proofs.Each.{Each, each-at, each-append, each-flat, each-from, each-more, each-gather, every-each}
+use Rattle.laws.specs.Lists.{gather, from, padded, parted}
+use Rattle.laws.proofs.Lists.{length-from, getD-from}
+use Rattle.laws.proofs.Each.{Each, each-at, each-append, each-flat, each-from, each-gather}
 use Rattle.laws.proofs.Filled.{length-padded, take-padded, row-padded, map-places, each-padded}
 use Rattle.meaning.specs.Plan.{Rule, Campaign, slots}
 use Rattle.meaning.specs.Problem.{version1, ruleOf}
 use Rattle.meaning.specs.Diagram.{Arcs}
-use Rattle.meaning.specs.Filter.{Numbers, begins, downNumbers, upNumbers}
-use Rattle.meaning.specs.Buffers.{nodeNeed, arcsIn, ofForm, nodeCells, layerCells, allCells}
+use Rattle.meaning.specs.Filter.{begins, downNumbers, upNumbers}
+use Rattle.meaning.specs.Buffers.{nodeNeed, arcsIn, allCells}
 use Rattle.meaning.specs.Page.{walked, pageOf, pageBytes}
 use Rattle.problem.specs.declared.Problem.{Problem}
 use Rattle.problem.specs.Held.{saidAt, campaignOf}
@@ -29,11 +29,12 @@ use Rattle.problem.proofs.Faultless.{Right, right}
 use Rattle.lent.specs.Small.{Fit}
 use Rattle.lent.specs.Vec.{arcVec}
 use Rattle.lent.specs.Lanes.{lanesAt}
-use Rattle.lent.proofs.Shape.{Form}
+use Rattle.lent.proofs.Shape.{form-of, form-low}
 use Rattle.lent.proofs.Fit.{downs-fit, ups-fit}
 use Rattle.lent.proofs.Cells.{cells-within}
 use Rattle.lent.proofs.Vec.{slot-at}
-use Rattle.lent.proofs.Whole.{downsAt, upsAt}
+use Rattle.lent.proofs.Whole.{downsAt, upsAt, downs-count, ups-count}
+use Rattle.lent.proofs.Table.{cells-count as cells-all, table-each}
 use Rattle.slot.specs.Rows.{coefParts, valueParts, lanesOf, stepLanes}
 use Rattle.slot.proofs.Laws.{lanes-long, step-long, parts-right, coefs-long, values-long}
 use Rattle.slot.proofs.Said.{map-map, said-weight, said-coefs, said-row, said-small, rules-long}
@@ -45,25 +46,10 @@ use Rattle.walk.specs.Beginnings.{rests, layAll, Walkable, Steers, Finds
 use Rattle.step.specs.Steps.{Laid, coefTable, valueTable}
 use Rattle.walk.proofs.Laying.{end, lay-count, lay-more, lay-page, lay-long}
 use Rattle.walk.proofs.Rests.{rests-long, walked-all, walked-behind}
-use Rattle.walk.proofs.Nodes.{flat-long, downs-count, ups-count, downOf, upOf, down-has, up-has, cells-long}
+use Rattle.walk.proofs.Nodes.{downOf, upOf, celled}
 use Rattle.walk.proofs.Guided as guided
 
--- ---- no byte leads past the w nodes of a layer, in the last layer past the sink
-below : (c : ℕ) (l : List (List ℕ)) → every (every (λ b. leb b c)) l ≡ true → Each (Each (λ b. b ≤ c)) l
-below c l e = every-each (every (λ b. leb b c)) (Each (λ b. b ≤ c)) (λ bs d. every-each (λ b. leb b c) (λ b. b ≤ c) (λ b t. leb-true b c t) bs d) l e
-
-pub form-of : (w : ℕ) (a : Arcs) → ofForm w a ≡ true → Form w a
-form-of w [] e = tt
-form-of w (l ∷ []) e = below 1 l e
-form-of w (l ∷ m ∷ ls) e =
-    let first = every (every (λ b. leb b w)) l in
-    (below w l (and-l first (ofForm w (m ∷ ls)) e), form-of w (m ∷ ls) (and-r first (ofForm w (m ∷ ls)) e))
-
-form-low : (w : ℕ) → 1 ≤ w → (a : Arcs) → Form w a → Each (Each (Each (λ b. b ≤ w))) a
-form-low w h [] f = tt
-form-low w h (l ∷ []) f = (each-more (Each (λ b. b ≤ 1)) (Each (λ b. b ≤ w)) (λ bs e. each-more (λ b. b ≤ 1) (λ b. b ≤ w) (λ b t. omega arith) bs e) l f, tt)
-form-low w h (l ∷ m ∷ ls) f = (f .0, form-low w h (m ∷ ls) (f .1))
-
+-- ---- no byte of the buffer leads past the w nodes of a layer
 bytes-low : (w n : ℕ) (b : List ℕ) → length b ≡ n * (w * 8) → Each (Each (Each (λ b. b ≤ w))) (map (parted w 8) (parted n (w * 8) b)) → Each (λ b. b ≤ w) b
 bytes-low w zero [] e h = tt
 bytes-low w zero (x ∷ b) e h = absurd (omega (arith, zero-mul (w * 8)))
@@ -81,34 +67,6 @@ zeros-within m zero = tt
 zeros-within m (suc n) = (record { size = omega arith }, zeros-within m n)
 
 -- ---- the cells of all nodes: how many, and how large
-module _ (k w : ℕ) where
-  layer-each : (P : List ℤ → Type 0) (ds us : List Numbers) → ((j : ℕ) → P (nodeCells k (getD ds j none) (getD us j none))) → Each P (layerCells k ds us)
-  layer-each P [] us h = tt
-  layer-each P (d ∷ ds) [] h = tt
-  layer-each P (d ∷ ds) (u ∷ us) h = (h 0, layer-each P ds us (λ j. h (suc j)))
-
-  all-long : (ds us : List (List Numbers)) → length us ≡ length ds → ((i j : ℕ) → length (nodeCells k (getD (getD ds i []) j none) (getD (getD us i []) j none)) ≡ k)
-      → length (allCells k w ds us) ≡ length ds * (w * k)
-  all-long [] us e h = sym (zero-mul (w * k))
-  all-long (d ∷ ds) [] e h = absurd (omega arith)
-  all-long (d ∷ ds) (u ∷ us) e h =
-      let z = replicate k (pos 0) in
-      let rows = padded w z (layerCells k d u) in
-      let each = each-padded (λ x. length x ≡ k) w z (layerCells k d u) (length-replicate k (pos 0)) (layer-each (λ x. length x ≡ k) d u (h 0)) in
-      let here : length (flat rows) ≡ w * k = flat-long k rows each ∙ ap (λ (n : ℕ). n * k) (length-padded z w (layerCells k d u)) in
-      length-append (flat rows) (allCells k w ds us) ∙ omega (arith, here, all-long ds us (omega arith) (λ i. h (suc i)), suc-mul (length ds) (w * k))
-
-  all-within : (ds us : List (List Numbers)) → ((i j : ℕ) → i < length ds → Each (Within 4000000) (nodeCells k (getD (getD ds i []) j none) (getD (getD us i []) j none))) → Each (Within 4000000) (allCells k w ds us)
-  all-within [] us h = tt
-  all-within (d ∷ ds) [] h = tt
-  all-within (d ∷ ds) (u ∷ us) h =
-      let z = replicate k (pos 0) in
-      let rows = padded w z (layerCells k d u) in
-      let zeros : Each (Within 4000000) z = zeros-within 4000000 k in
-      each-append (Within 4000000) (flat rows) (allCells k w ds us)
-      (each-flat (Within 4000000) rows (each-padded (Each (Within 4000000)) w z (layerCells k d u) zeros (layer-each (Each (Within 4000000)) d u (λ j. h 0 j (omega arith)))))
-      (all-within ds us (λ i j b. h (suc i) j (omega arith)))
-
 module _ {q : Campaign} {w n m : ℕ} {b : List ℕ} {a : Arcs} (s : Setting q w n m b a) where
   abbrev cellsOf : List ℤ
   cellsOf = allCells (nodeNeed q) w (downNumbers q a) (upNumbers q a)
@@ -118,14 +76,14 @@ module _ {q : Campaign} {w n m : ℕ} {b : List ℕ} {a : Arcs} (s : Setting q w
 
   pub cells-count : length cellsOf ≡ suc n * (w * (4 * m + 3))
   cells-count =
-      all-long (nodeNeed q) w (downNumbers q a) (upNumbers q a) (ups-count q 0 a ∙ sym (downs-count q 0 (begins q ∷ []) a)) (λ i j. cells-long q (downOf q a i j) (upOf q a i j) (down-has q a i j) (up-has q a i j))
+      cells-all (nodeNeed q) w (downNumbers q a) (upNumbers q a) (ups-count q 0 a ∙ sym (downs-count q 0 (begins q ∷ []) a)) (celled q a)
       ∙ (λ t. layers t * (w * (4 * s .rules t + 3)))
 
   pub cells-inside : Each (Within 4000000) cellsOf
   cells-inside =
       let c = s .count in
       let few = s .whole .long in
-      all-within (nodeNeed q) w (downNumbers q a) (upNumbers q a)
+      table-each (nodeNeed q) w (Within 4000000) (record { size = omega arith }) (downNumbers q a) (upNumbers q a)
       (λ i j b.
       cells-within q (s .small) i (length a - i) (omega (arith, layers)) (omega arith) (nodeNeed q) (downOf q a i j) (upOf q a i j)
       (each-at (Fit q i) (downsAt q a i) j none tt (downs-fit q (s .small) a (s .whole .few) i))

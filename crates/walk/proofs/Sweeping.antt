@@ -23,7 +23,7 @@ use Rattle.problem.proofs.Faultless.{right}
 use Rattle.lent.specs.Wide.{wide, laid, Sized}
 use Rattle.lent.proofs.Wide.{wide-cells, wide-walks}
 use Rattle.lent.proofs.Swept.{swept-cells}
-use Rattle.lent.proofs.Shape.{Form, Shaped, drops-shaped}
+use Rattle.lent.proofs.Shape.{Form, Shaped, form-of, drops-shaped}
 use Rattle.lent.proofs.Whole.{Whole}
 use Rattle.numbers.specs.Whole.{Ready, Formed}
 use Rattle.numbers.proofs.Passes.{setting}
@@ -31,7 +31,7 @@ use Rattle.numbers.proofs.Held.{held-arcs, held-formed}
 use Rattle.step.specs.declared.Listed.{Listed}
 use Rattle.step.specs.Answers.{listedAs}
 use Rattle.walk.proofs.Rests.{walked-swept}
-use Rattle.walk.proofs.Steered.{form-of, slots-are, cells-count}
+use Rattle.walk.proofs.Steered.{slots-are, cells-count}
 
 -- ---- no path begins but at the source, the first node: without the others of its layer the sweep leaves the same, and so are the numbers
 abbrev single : Arcs → Arcs

@@ -5,18 +5,18 @@ use mathlib.Core.Bool.{Bool, true, false, _&&_, cond}
 use Prim.Native.Nat.{ℕ, zero, suc, _+_, _*_, _-_, _≤_, _<_}
 use native.Mathlib.Numerals.{add-one}
 use native.Mathlib.Omega.{arith}
-use lib.Dec.{eqb, ltb}
+use lib.Dec.{eqb}
 use lib.ListN.{length, getD, set, take, drop, length-drop}
-use lib.Seq.{length-take-le, take-take, take-suc-set, drop-set-lt, getD-take, drop-drop, drop-cons}
+use lib.Seq.{length-take-le, take-take, take-suc-set, drop-set-lt, getD-take, drop-drop}
 use lib.IntN.{ℤ, pos, _-ℤ_, _*ℤ_}
 use borrow.Author.Tests.{eqb-true, lt-ltb, le-ltb}
-use Rattle.laws.proofs.Lists.{and-l, and-r}
+use Rattle.laws.proofs.Lists.{and-r}
 use Rattle.meaning.specs.Plan.{Campaign, slots}
 use Rattle.meaning.specs.Diagram.{Arcs}
-use Rattle.walk.specs.Beginnings.{fits, rests, stepRests, fromStep, layAll, Walkable, Steers, Stands, Finds}
+use Rattle.walk.specs.Beginnings.{rests, layAll, Walkable, Steers, Stands, Finds}
 use Rattle.step.specs.Steps.{firstOf, Laid, laying, isOpen, mayKeep, withShares}
 use Rattle.walk.proofs.Laying.{lay-append, lay-full}
-use Rattle.walk.proofs.Rests.{rests-end, rests-node, from-next, from-end}
+use Rattle.walk.proofs.Rests.{stepRests, fromStep, rests-end, rests-node, from-next, from-end}
 use Rattle.walk.proofs.Guided.{length-a, long, shut, cut, goes, stands}
 
 -- ---- lists

@@ -1,25 +1,22 @@
 -- Which plans does a beginning of a plan lead to, along any arcs, and in which order does the walk lay them on the page?
 use mathlib.Core.Path.{_≡_}
 use mathlib.Core.List.{List, [], _∷_, _++_, map}
-use mathlib.Core.Bool.{Bool, true, false, not, _&&_, cond}
+use mathlib.Core.Bool.{Bool, true, _&&_, cond}
 use mathlib.Core.Option.{none}
-use Prim.Native.Nat.{ℕ, zero, suc, _+_, _*_, _-_, _≤_, _<_}
-use lib.Dec.{eqb, ltb}
+use Prim.Native.Nat.{ℕ, suc, _+_, _*_, _-_, _≤_, _<_}
 use lib.ListN.{length, getD, take, drop}
-use lib.Seq.{paste}
-use lib.IntN.{ℤ, pos, _+ℤ_, _-ℤ_, _*ℤ_}
+use lib.IntN.{ℤ, pos, _+ℤ_, _*ℤ_}
 use lib.Signed.{leZ}
 use Rattle.laws.specs.Z.{Within}
-use Rattle.laws.specs.Lists.{keep, every, gather, from, padded}
+use Rattle.laws.specs.Lists.{keep}
 use Rattle.laws.proofs.Each.{Each}
-use Rattle.meaning.specs.Plan.{Rule, Campaign, slots, bit, allows, summed, total, plans, after}
+use Rattle.meaning.specs.Plan.{Rule, Campaign, slots, summed, total, plans, after}
 use Rattle.meaning.specs.Diagram.{Arcs}
 use Rattle.meaning.specs.Filter.{downNumbers, upNumbers}
-use Rattle.meaning.specs.Bound.{walks, arcAt}
+use Rattle.meaning.specs.Bound.{walks}
 use Rattle.meaning.specs.Buffers.{nodeNeed, arcsIn, ofForm, allCells}
-use Rattle.lent.specs.Lanes.{sums}
 use Rattle.slot.specs.Rows.{lanesOf}
-use Rattle.step.specs.Steps.{firstOf, Laid, laying}
+use Rattle.step.specs.Steps.{Laid, laying}
 
 -- ---- the rest of a plan, from slot i on
 -- it keeps every rule, from the totals ts on
@@ -39,26 +36,6 @@ behind own s p = cond own (after s p) true
 -- every rest that fits, in dictionary order
 abbrev pub rests : Campaign → Arcs → ℕ → ℕ → List ℤ → ℤ → Bool → List ℕ → List (List ℕ)
 rests q a i j ts c own s = keep (behind own s) (keep (fits q i (drop i a) j ts c) (plans (q .steps) (drop i (q .sets))))
-
--- each rule's total with its share of slot i and step v
-abbrev pub added : List Rule → ℕ → ℕ → List ℤ → List ℤ
-added [] i v ts = []
-added (r ∷ rs) i v [] = []
-added (r ∷ rs) i v (t ∷ ts) = (t +ℤ r .share i v) ∷ added rs i v ts
-
--- the rests that begin with step v: along its arc, if the slot allows it
-abbrev pub onto : Campaign → Arcs → ℕ → List ℤ → ℤ → Bool → List ℕ → ℕ → ℕ → List (List ℕ)
-onto q a i ts c own s v zero = []
-onto q a i ts c own s v (suc k) =
-    let rest = rests q a (suc i) k (added (q .rules) i v ts) (c -ℤ q .price i v) (own && eqb v (firstOf own s)) (drop 1 s) in
-    map (λ p. v ∷ p) rest
-
-abbrev pub stepRests : Campaign → Arcs → ℕ → ℕ → List ℤ → ℤ → Bool → List ℕ → ℕ → List (List ℕ)
-stepRests q a i j ts c own s v = cond (bit (getD (q .sets) i 0) v) (onto q a i ts c own s v (arcAt a i j v)) []
-
--- of the steps from v on, k of them
-abbrev pub fromStep : Campaign → Arcs → ℕ → ℕ → List ℤ → ℤ → Bool → List ℕ → ℕ → ℕ → List (List ℕ)
-fromStep q a i j ts c own s v k = gather (stepRests q a i j ts c own s) (from v k)
 
 -- one after the other
 abbrev pub layAll : ℕ → ℕ → Laid → List (List ℕ) → Laid

@@ -1,16 +1,12 @@
 // The walk: recursion over the slots along any arcs, pruned by the up numbers of these arcs; the page of the plans that it finds.
 ghost use mathlib.Core.Path.{_≡_};
-ghost use mathlib.Core.List.{_++_, map};
-ghost use mathlib.Core.Bool.{true, _&&_};
-ghost use lib.Dec.{eqb};
+ghost use mathlib.Core.Bool.{true};
 ghost use mathlib.Core.Logic.{_⊎_};
-ghost use Prim.Native.Nat.{ℕ, suc, _+_, _*_, _-_, _/_, _≤_, _<_};
-ghost use lib.ListN.{length, getD, take, drop, replicate};
-ghost use lib.IntN.{ℤ, pos};
+ghost use Prim.Native.Nat.{suc, _+_, _*_, _-_, _/_, _≤_, _<_};
+ghost use lib.ListN.{length, take};
 ghost use Rattle.laws.specs.Z.{Within};
 ghost use Rattle.laws.proofs.Each.{Each};
 ghost use Rattle.meaning.specs.Plan.{Campaign, slots};
-ghost use Rattle.meaning.specs.Diagram.{Arcs};
 ghost use Rattle.meaning.specs.Filter.{downNumbers, upNumbers, swept};
 ghost use Rattle.meaning.specs.Buffers.{nodeNeed, cellsNeed, arcsIn, allCells};
 ghost use Rattle.meaning.specs.Page.{walked, pageOf, pageBytes};
@@ -23,9 +19,9 @@ use problem::Problem;
 use step::Listed;
 
 // ---- the recursion
-// Lays on the page every plan that begins with the first n - left steps of `plan`, of which these totals and this budget are left,
-// and goes on from node j; if these steps are the start's own, what follows in `plan` is the start's rest, and only plans after
-// it count. Says how many plans came by, at most one more than the page has room for.
+// Lays on the page every plan that begins with the first n - left steps of `plan` and goes on from node j, as far as it is lawful and
+// within the ceiling: these steps have these totals and leave this budget. If they are the start's own, what follows in `plan` is the
+// start's rest, and only plans after it count. Says how many plans came by, at most one more than the page has room for.
 fn node<'a>(
     n: usize,
     m: usize,

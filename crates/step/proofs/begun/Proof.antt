@@ -6,7 +6,8 @@ use denote.Ref.{now}
 use lib.ListN.{length, take}
 use lib.Seq.{take-all}
 use Rattle.laws.specs.Lists.{padded}
-use Rattle.step.proofs.Steps.{table-more, padded-is}
+use Rattle.laws.proofs.Filled.{padded-split}
+use Rattle.step.proofs.Steps.{table-more}
 use borrow.Author.Needs.{needs}
 use Rattle.step.proofs.begun.Statement.{statement}
 use Rattle.step.proofs.begun.Tie as tie
@@ -42,7 +43,7 @@ returns : tie.Need-returns Inv-loop μ-loop
 returns c =
     let s = c .before .before in
     let start = now (s .args .start) in
-    c .before .loop .inv .1 ∙ ap (padded 24 0) (take-all (c .before .loop .k) start (c .loop-test .left)) ∙ padded-is 24 0 start (s .pre)
+    c .before .loop .inv .1 ∙ ap (padded 24 0) (take-all (c .before .loop .k) start (c .loop-test .left)) ∙ padded-split 24 0 start (s .pre)
 
 pub begun-spec : {M : Type 1} → statement M
 begun-spec =

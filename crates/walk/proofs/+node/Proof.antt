@@ -1,5 +1,5 @@
 -- The recursion, with a loop over the steps. The invariant says that what is left from step v on gives the whole.
-use borrow.Author.Needs.{needs, below-length}
+use borrow.Author.Needs.{needs}
 use mathlib.Core.Path.{_≡_, refl, sym, ap, _∙_}
 use mathlib.Core.Logic.{⊎-elim}
 use Prim.Native.Nat.{suc, _≤_, _+_, _*_, _-_}
@@ -10,8 +10,8 @@ use mir.Val.{toZ}
 use mir.Facts.{toZ-ofZ}
 use mathlib.Core.Bool.{_&&_}
 use lib.Dec.{eqb}
-use lib.ListN.{length, getD, take, drop, set, length-set}
-use lib.Seq.{take-set-le, take-take}
+use lib.ListN.{length, getD, take, set, length-set}
+use lib.Seq.{take-set-le}
 use lib.IntN.{pos, _-ℤ_, _*ℤ_}
 use Rattle.laws.specs.Z.{back, back-within, back-is, widen}
 use Rattle.state.proofs.Sizes.{dif-fits, dif-back}

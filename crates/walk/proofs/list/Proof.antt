@@ -3,20 +3,16 @@ use borrow.Author.Needs.{needs}
 use mathlib.Core.Path.{_≡_, refl, sym, ap, _∙_}
 use mathlib.Core.List.{List}
 use mathlib.Core.Logic.{⊎-elim}
-use mathlib.Core.Bool.{cond}
 use Prim.Native.Nat.{ℕ, _-_, _*_, _/_, _≤_}
 use native.Mathlib.Omega.{arith}
-use native.Mathlib.Nat.{div-mul-le-self, div-le-self, mul-le-mul-right}
+use native.Mathlib.Nat.{div-mul-le-self, div-le-self}
 use denote.Ref.{now}
-use borrow.Author.Tests.{ltb-false}
-use lib.Dec.{ltb}
 use lib.ListN.{length, replicate, length-append, length-replicate}
 use lib.IntN.{pos}
 use mir.Syntax.{w64}
 use mir.Val.{Fits}
-use mir.Facts.{toZ-ofZ, fits-le}
+use mir.Facts.{toZ-ofZ}
 use Rattle.laws.specs.Z.{back-within}
-use Rattle.laws.proofs.Lists.{cond-first, cond-second}
 use Rattle.meaning.specs.Problem.{version1}
 use Rattle.meaning.specs.Buffers.{arcsIn}
 use Rattle.meaning.specs.Page.{walked, pageOf, pageBytes}

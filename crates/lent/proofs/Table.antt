@@ -5,25 +5,22 @@ use mathlib.Core.Option.{none}
 use Prim.Native.Nat.{ℕ, zero, suc, _+_, _*_, _≤_, _<_}
 use native.Mathlib.Omega.{arith}
 use native.Mathlib.Nat.{zero-mul, suc-mul, mul-assoc, mul-le-mul-right, add-mul}
-use lib.ListN.{length, getD, take, drop, replicate, length-append, length-map, length-replicate}
+use lib.ListN.{length, getD, take, drop, replicate, length-map, length-replicate}
 use lib.Seq.{drop-append-add, take-at, drop-drop, getD-take, getD-drop}
 use lib.IntN.{ℤ, pos}
 use Rattle.laws.specs.Lists.{flat, padded}
 use Rattle.laws.proofs.Lists.{getD-map}
-use Rattle.laws.proofs.Filled.{length-padded, take-within, each-padded}
+use Rattle.laws.proofs.Filled.{length-padded, take-within, each-padded, flat-long}
 use Rattle.laws.proofs.Each.{Each, each-at, each-below, each-map, each-append, each-flat}
 use Rattle.meaning.specs.Diagram.{Arcs}
 use Rattle.meaning.specs.Filter.{Numbers}
 use Rattle.meaning.specs.Buffers.{nodeCells, layerCells, allCells}
 use Rattle.lent.specs.Wide.{wide, laid, Sized}
-use Rattle.lent.proofs.Places.{cells-none}
+use Rattle.lent.proofs.Places.{cells-at}
+use Rattle.lent.proofs.Lanes.{padded-at}
 
 -- ---- rows of k elements each, one behind the other
 module _ {A : Type 0} (k : ℕ) where
-  flat-long : (l : List (List A)) → Each (λ x. length x ≡ k) l → length (flat l) ≡ length l * k
-  flat-long [] h = sym (zero-mul k)
-  flat-long (x ∷ l) h = length-append x (flat l) ∙ omega (arith, h .0, flat-long l (h .1), suc-mul (length l) k)
-
   flat-row : (l : List (List A)) (j : ℕ) (d : List A) → Each (λ x. length x ≡ k) l → j < length l → take k (drop (j * k) (flat l)) ≡ getD l j d
   flat-row [] j d h b = absurd (omega arith)
   flat-row (x ∷ l) zero d h b = rw (zero-mul k) (take-at x (flat l) k (h .0))
@@ -33,7 +30,7 @@ module _ {A : Type 0} (k : ℕ) where
 
 -- ---- layers of w rows each
 module _ {A : Type 0} (k w : ℕ) where
-  abbrev pub Even : List (List (List A)) → Type 0
+  abbrev Even : List (List (List A)) → Type 0
   Even t = Each (λ l. (length l ≡ w) × Each (λ x. length x ≡ k) l) t
 
   layers-long : (t : List (List (List A))) → Even t → Each (λ x. length x ≡ w * k) (map flat t)
@@ -41,7 +38,7 @@ module _ {A : Type 0} (k w : ℕ) where
       each-map (λ (l : List (List A)). (length l ≡ w) × Each (λ x. length x ≡ k) l) (λ x. length x ≡ w * k) flat
       (λ l e. flat-long k l (e .1) ∙ ap (λ (n : ℕ). n * k) (e .0)) t h
 
-  pub table-long : (t : List (List (List A))) → Even t → length (flat (map flat t)) ≡ length t * (w * k)
+  table-long : (t : List (List (List A))) → Even t → length (flat (map flat t)) ≡ length t * (w * k)
   table-long t h = flat-long (w * k) (map flat t) (layers-long t h) ∙ ap (λ (n : ℕ). n * (w * k)) (length-map t flat)
 
   layer-at : (t : List (List (List A))) → Even t → (i : ℕ) → i < length t → take (w * k) (drop (i * (w * k)) (flat (map flat t))) ≡ flat (getD t i [])
@@ -60,19 +57,11 @@ module _ {A : Type 0} (k w : ℕ) where
       ∙ flat-row k (getD t i []) j d (own .1) (omega (arith, own .0))
 
   -- one element of a node
-  pub element-at : (t : List (List (List A))) → Even t → (i j v : ℕ) (d : List A) (z : A) → i < length t → j < w → v < k
+  element-at : (t : List (List (List A))) → Even t → (i j v : ℕ) (d : List A) (z : A) → i < length t → j < w → v < k
       → getD (flat (map flat t)) ((i * w + j) * k + v) z ≡ getD (getD (getD t i []) j d) v z
   element-at t h i j v d z b c e =
       let f = flat (map flat t) in
       sym (getD-take k (drop ((i * w + j) * k) f) v z e ∙ getD-drop ((i * w + j) * k) f v z) ∙ ap (λ (x : List A). getD x v z) (node-at t h i j d b c)
-
--- a list that is filled up, below its length
-padded-at : {A : Type 0} (n : ℕ) (z : A) (l : List A) (j : ℕ) → j < n → getD (padded n z l) j z ≡ getD l j z
-padded-at zero z l j h = absurd (omega arith)
-padded-at (suc n) z [] zero h = refl
-padded-at (suc n) z [] (suc j) h = padded-at n z [] j (omega arith)
-padded-at (suc n) z (x ∷ l) zero h = refl
-padded-at (suc n) z (x ∷ l) (suc j) h = padded-at n z l j (omega arith)
 
 -- ---- the bytes
 module _ (k w : ℕ) (a : Arcs) (h : Sized k w a) where
@@ -106,12 +95,12 @@ module _ (k w : ℕ) (a : Arcs) (h : Sized k w a) where
 
 -- ---- the cells
 module _ (k w : ℕ) where
-  abbrev pub table : List (List Numbers) → List (List Numbers) → List (List (List ℤ))
+  abbrev table : List (List Numbers) → List (List Numbers) → List (List (List ℤ))
   table [] us = []
   table (d ∷ ds) [] = []
   table (d ∷ ds) (u ∷ us) = padded w (replicate k (pos 0)) (layerCells k d u) ∷ table ds us
 
-  pub cells-table : (ds us : List (List Numbers)) → allCells k w ds us ≡ flat (map flat (table ds us))
+  cells-table : (ds us : List (List Numbers)) → allCells k w ds us ≡ flat (map flat (table ds us))
   cells-table [] us = refl
   cells-table (d ∷ ds) [] = refl
   cells-table (d ∷ ds) (u ∷ us) = ap (λ (r : List ℤ). flat (padded w (replicate k (pos 0)) (layerCells k d u)) ++ r) (cells-table ds us)
@@ -125,30 +114,36 @@ module _ (k w : ℕ) where
   layer-long (d ∷ ds) [] h = tt
   layer-long (d ∷ ds) (u ∷ us) h = (h 0, layer-long ds us (λ j. h (suc j)))
 
-  pub table-even : (ds us : List (List Numbers)) → ((i : ℕ) → Celled (getD ds i []) (getD us i [])) → Even k w (table ds us)
+  table-even : (ds us : List (List Numbers)) → ((i : ℕ) → Celled (getD ds i []) (getD us i [])) → Even k w (table ds us)
   table-even [] us h = tt
   table-even (d ∷ ds) [] h = tt
   table-even (d ∷ ds) (u ∷ us) h =
       let z = replicate k (pos 0) in
       ((length-padded z w (layerCells k d u), each-padded (λ c. length c ≡ k) w z (layerCells k d u) (length-replicate k (pos 0)) (layer-long d u (h 0))), table-even ds us (λ i. h (suc i)))
 
-  pub table-rows : (ds us : List (List Numbers)) → length us ≡ length ds → length (table ds us) ≡ length ds
+  table-rows : (ds us : List (List Numbers)) → length us ≡ length ds → length (table ds us) ≡ length ds
   table-rows [] us e = refl
   table-rows (d ∷ ds) [] e = absurd (omega arith)
   table-rows (d ∷ ds) (u ∷ us) e = ap suc (table-rows ds us (omega arith))
 
-  cells-at : (ds us : List Numbers) (j : ℕ) → getD (layerCells k ds us) j (replicate k (pos 0)) ≡ nodeCells k (getD ds j none) (getD us j none)
-  cells-at [] us j = refl
-  cells-at (d ∷ ds) [] j = sym (cells-none k (getD (d ∷ ds) j none))
-  cells-at (d ∷ ds) (u ∷ us) zero = refl
-  cells-at (d ∷ ds) (u ∷ us) (suc j) = cells-at ds us j
-
-  pub table-at : (ds us : List (List Numbers)) (i j : ℕ) → length us ≡ length ds → i < length ds → j < w
+  table-at : (ds us : List (List Numbers)) (i j : ℕ) → length us ≡ length ds → i < length ds → j < w
       → getD (getD (table ds us) i []) j (replicate k (pos 0)) ≡ nodeCells k (getD (getD ds i []) j none) (getD (getD us i []) j none)
   table-at [] us i j e b c = absurd (omega arith)
   table-at (d ∷ ds) [] i j e b c = absurd (omega arith)
-  table-at (d ∷ ds) (u ∷ us) zero j e b c = padded-at w (replicate k (pos 0)) (layerCells k d u) j c ∙ cells-at d u j
+  table-at (d ∷ ds) (u ∷ us) zero j e b c = padded-at w (replicate k (pos 0)) (layerCells k d u) j c ∙ cells-at k d u j
   table-at (d ∷ ds) (u ∷ us) (suc i) j e b c = table-at ds us i j (omega arith) (omega arith) c
+
+  -- so there are as many as all nodes have, and cell v of node j of layer i stands at its place
+  module _ (ds us : List (List Numbers)) (same : length us ≡ length ds) (celled : (i : ℕ) → Celled (getD ds i []) (getD us i [])) where
+    pub cells-count : length (allCells k w ds us) ≡ length ds * (w * k)
+    cells-count = ap length (cells-table ds us) ∙ table-long k w (table ds us) (table-even ds us celled) ∙ ap (λ (n : ℕ). n * (w * k)) (table-rows ds us same)
+
+    pub cell-at : (i j v : ℕ) → i < length ds → j < w → v < k
+        → getD (allCells k w ds us) ((i * w + j) * k + v) (pos 0) ≡ getD (nodeCells k (getD (getD ds i []) j none) (getD (getD us i []) j none)) v (pos 0)
+    cell-at i j v b c e =
+        ap (λ (l : List ℤ). getD l ((i * w + j) * k + v) (pos 0)) (cells-table ds us)
+        ∙ element-at k w (table ds us) (table-even ds us celled) i j v (replicate k (pos 0)) (pos 0) (omega (arith, table-rows ds us same)) c e
+        ∙ ap (λ (l : List ℤ). getD l v (pos 0)) (table-at ds us i j same b c)
 
   -- what holds of each cell of each node holds of all
   module _ (P : ℤ → Type 0) (z : P (pos 0)) where
