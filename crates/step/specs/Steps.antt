@@ -27,10 +27,11 @@ mayKeep m lb ub cells at totals =
     let z = pos 0 in
     every (λ r. leZ (getD totals r z +ℤ getD cells (at + 4 * r + 3) z) (getD ub r z) && leZ (getD lb r z) (getD totals r z +ℤ getD cells (at + 4 * r + 4) z)) (from 0 m)
 
--- what the rules count in each of n slots, eight to a slot: a coefficient and a set of values
+-- the coefficient of each rule in each of n slots, eight to a slot, zero past them
 abbrev pub coefTable : ℕ → ℕ → List ℕ → List ℤ → List ℤ
 coefTable n m kinds coefs = padded 192 (pos 0) (gather (λ i. coefParts m i kinds coefs) (from 0 n))
 
+-- the same of the values that it counts
 abbrev pub valueTable : ℕ → ℕ → List ℕ → List ℕ → List ℕ → List ℕ
 valueTable n m kinds values slots = padded 192 0 (gather (λ i. valueParts m i kinds values slots) (from 0 n))
 
@@ -38,7 +39,7 @@ valueTable n m kinds values slots = padded 192 0 (gather (λ i. valueParts m i k
 abbrev pub withShares : List ℤ → List ℕ → ℕ → ℕ → List ℤ → List ℤ
 withShares coefs values i v totals = sums totals (lanesOf (take 8 (drop (i * 8) coefs)) (take 8 (drop (i * 8) values)) v)
 
--- what stands on it, and how many plans came by: at most one more than it has room for
+-- what stands on a page, and how many plans came by: at most one more than it has room for
 pub record Laid : Type 0 where
   pub page : List ℕ
   pub seen : ℕ

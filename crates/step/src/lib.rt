@@ -11,6 +11,7 @@ ghost use Rattle.laws.proofs.Each.{Each};
 ghost use Rattle.step.specs.Steps.{firstOf, laying, isOpen, mayKeep, withShares, coefTable, valueTable};
 
 // ---- one step
+// A byte as a step.
 pub fn step(b: u8) -> usize
     ensures { λ r. ⌜ r ≡ b ⌝ }
 {
@@ -190,6 +191,7 @@ pub fn begun(start: &[u8]) -> [u8; 24]
     plan
 }
 
+// Every byte zero.
 pub fn zero_bytes(page: &mut [u8])
     ensures { λ r. ⌜ now (page .exit) ≡ replicate (length (now (page .entry))) 0 ⌝ }
 {

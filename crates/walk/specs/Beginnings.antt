@@ -37,7 +37,7 @@ behind own s p = cond own (after s p) true
 abbrev pub rests : Campaign → Arcs → ℕ → ℕ → List ℤ → ℤ → Bool → List ℕ → List (List ℕ)
 rests q a i j ts c own s = keep (behind own s) (keep (fits q i (drop i a) j ts c) (plans (q .steps) (drop i (q .sets))))
 
--- one after the other
+-- plans that come by one after the other
 abbrev pub layAll : ℕ → ℕ → Laid → List (List ℕ) → Laid
 layAll n cap s [] = s
 layAll n cap s (p ∷ ps) = layAll n cap (laying n cap s p) ps

@@ -179,6 +179,7 @@ pub fn walk(
 }
 
 // ---- the form of bytes that no builder need have made
+// No byte is above `most`.
 fn are_at_most(bytes: &[u8], most: usize) -> bool
     ensures { λ r. ⌜ (r ≡ true → Each (λ b. b ≤ most) (now (bytes .entry))) ⌝ }
 {

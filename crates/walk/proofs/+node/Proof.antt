@@ -51,8 +51,9 @@ abbrev node-μ-loop : node-lts.MeasureT-loop
 node-μ-loop n m w sets weights lb ub coefs values arcs cells own left j totals budget plan₀ cap page₀ seen i weight set first t₀ v₀ plan page t v =
     8 - v
 
--- src/lib.rt:57:13
-node-sub-i : (t : ℕ) → node-lts.Need-sub-i (
+-- what the calls ask and tell
+abbrev claims : ℕ → node-lts.Claims
+claims t = (
   first-step-reads.Asked,
   first-step-reads.Learnt,
   price-reads.Asked,
@@ -69,133 +70,27 @@ node-sub-i : (t : ℕ) → node-lts.Need-sub-i (
   leaf-reads.Learnt,
   node-below t,
   node.Post,
-) (node-at t) node.Post node-Inv-loop node-μ-loop
+)
+
+node-sub-i : (t : ℕ) → node-lts.Need-sub-i (claims t) (node-at t) node.Post node-Inv-loop node-μ-loop
 node-sub-i t c = search needs
 
--- src/lib.rt:58:18
-node-mul-weight : (t : ℕ) → node-lts.Need-mul-weight (
-  first-step-reads.Asked,
-  first-step-reads.Learnt,
-  price-reads.Asked,
-  price-reads.Learnt,
-  is-open-reads.Asked,
-  is-open-reads.Learnt,
-  with-shares-reads.Asked,
-  with-shares-reads.Learnt,
-  may-keep-reads.Asked,
-  may-keep-reads.Learnt,
-  is-own-reads.Asked,
-  is-own-reads.Learnt,
-  leaf-reads.Asked,
-  leaf-reads.Learnt,
-  node-below t,
-  node.Post,
-) (node-at t) node.Post node-Inv-loop node-μ-loop
+node-mul-weight : (t : ℕ) → node-lts.Need-mul-weight (claims t) (node-at t) node.Post node-Inv-loop node-μ-loop
 node-mul-weight t c = search needs
 
--- src/lib.rt:58:18
-node-element-copy-out-weight : (t : ℕ) → node-lts.Need-element-copy-out-weight (
-  first-step-reads.Asked,
-  first-step-reads.Learnt,
-  price-reads.Asked,
-  price-reads.Learnt,
-  is-open-reads.Asked,
-  is-open-reads.Learnt,
-  with-shares-reads.Asked,
-  with-shares-reads.Learnt,
-  may-keep-reads.Asked,
-  may-keep-reads.Learnt,
-  is-own-reads.Asked,
-  is-own-reads.Learnt,
-  leaf-reads.Asked,
-  leaf-reads.Learnt,
-  node-below t,
-  node.Post,
-) (node-at t) node.Post node-Inv-loop node-μ-loop
+node-element-copy-out-weight : (t : ℕ) → node-lts.Need-element-copy-out-weight (claims t) (node-at t) node.Post node-Inv-loop node-μ-loop
 node-element-copy-out-weight t c = search needs
 
--- src/lib.rt:59:15
-node-mul-set : (t : ℕ) → node-lts.Need-mul-set (
-  first-step-reads.Asked,
-  first-step-reads.Learnt,
-  price-reads.Asked,
-  price-reads.Learnt,
-  is-open-reads.Asked,
-  is-open-reads.Learnt,
-  with-shares-reads.Asked,
-  with-shares-reads.Learnt,
-  may-keep-reads.Asked,
-  may-keep-reads.Learnt,
-  is-own-reads.Asked,
-  is-own-reads.Learnt,
-  leaf-reads.Asked,
-  leaf-reads.Learnt,
-  node-below t,
-  node.Post,
-) (node-at t) node.Post node-Inv-loop node-μ-loop
+node-mul-set : (t : ℕ) → node-lts.Need-mul-set (claims t) (node-at t) node.Post node-Inv-loop node-μ-loop
 node-mul-set t c = search needs
 
--- src/lib.rt:59:15
-node-element-copy-out-set : (t : ℕ) → node-lts.Need-element-copy-out-set (
-  first-step-reads.Asked,
-  first-step-reads.Learnt,
-  price-reads.Asked,
-  price-reads.Learnt,
-  is-open-reads.Asked,
-  is-open-reads.Learnt,
-  with-shares-reads.Asked,
-  with-shares-reads.Learnt,
-  may-keep-reads.Asked,
-  may-keep-reads.Learnt,
-  is-own-reads.Asked,
-  is-own-reads.Learnt,
-  leaf-reads.Asked,
-  leaf-reads.Learnt,
-  node-below t,
-  node.Post,
-) (node-at t) node.Post node-Inv-loop node-μ-loop
+node-element-copy-out-set : (t : ℕ) → node-lts.Need-element-copy-out-set (claims t) (node-at t) node.Post node-Inv-loop node-μ-loop
 node-element-copy-out-set t c = search needs
 
--- src/lib.rt:60:9
-node-first-step-requires : (t : ℕ) → node-lts.Need-first-step-requires (
-  first-step-reads.Asked,
-  first-step-reads.Learnt,
-  price-reads.Asked,
-  price-reads.Learnt,
-  is-open-reads.Asked,
-  is-open-reads.Learnt,
-  with-shares-reads.Asked,
-  with-shares-reads.Learnt,
-  may-keep-reads.Asked,
-  may-keep-reads.Learnt,
-  is-own-reads.Asked,
-  is-own-reads.Learnt,
-  leaf-reads.Asked,
-  leaf-reads.Learnt,
-  node-below t,
-  node.Post,
-) (node-at t) node.Post node-Inv-loop node-μ-loop
+node-first-step-requires : (t : ℕ) → node-lts.Need-first-step-requires (claims t) (node-at t) node.Post node-Inv-loop node-μ-loop
 node-first-step-requires t c κs = search needs
 
--- src/lib.rt:63:5
-node-loop-holds : (t : ℕ) → node-lts.Need-loop-holds (
-  first-step-reads.Asked,
-  first-step-reads.Learnt,
-  price-reads.Asked,
-  price-reads.Learnt,
-  is-open-reads.Asked,
-  is-open-reads.Learnt,
-  with-shares-reads.Asked,
-  with-shares-reads.Learnt,
-  may-keep-reads.Asked,
-  may-keep-reads.Learnt,
-  is-own-reads.Asked,
-  is-own-reads.Learnt,
-  leaf-reads.Asked,
-  leaf-reads.Learnt,
-  node-below t,
-  node.Post,
-) (node-at t) node.Post node-Inv-loop node-μ-loop
+node-loop-holds : (t : ℕ) → node-lts.Need-loop-holds (claims t) (node-at t) node.Post node-Inv-loop node-μ-loop
 node-loop-holds t c =
     let x = c .before .before .before .before .before .before in
     let a = x .args in
@@ -205,46 +100,10 @@ node-loop-holds t c =
     let below : i < a .n = omega (arith, x .pre .1 .2) in
     (refl, x .pre .1 .12, refl, (λ e. refl), x .pre .1 .8, rw (toZ-ofZ (x .fits .budget)) (going-begins (a .n) (a .m) (a .w) (now (a .sets)) (now (a .weights)) (now (a .lb)) (now (a .ub)) (now (a .coefs)) (now (a .values)) (now (a .arcs)) (now (a .cells)) (a .own) (a .n - a .left) (a .j) (now (a .totals)) (a .budget) (now (a .plan)) (a .cap) (now (a .page)) (a .seen) g below (x .pre .1 .11) (x .pre .1 .12) _ ((c .first-step) .ensures)), omega arith)
 
--- src/lib.rt:65:13
-node-same-length : (t : ℕ) → node-lts.Need-same-length (
-  first-step-reads.Asked,
-  first-step-reads.Learnt,
-  price-reads.Asked,
-  price-reads.Learnt,
-  is-open-reads.Asked,
-  is-open-reads.Learnt,
-  with-shares-reads.Asked,
-  with-shares-reads.Learnt,
-  may-keep-reads.Asked,
-  may-keep-reads.Learnt,
-  is-own-reads.Asked,
-  is-own-reads.Learnt,
-  leaf-reads.Asked,
-  leaf-reads.Learnt,
-  node-below t,
-  node.Post,
-) (node-at t) node.Post node-Inv-loop node-μ-loop
+node-same-length : (t : ℕ) → node-lts.Need-same-length (claims t) (node-at t) node.Post node-Inv-loop node-μ-loop
 node-same-length t c = search needs
 
--- src/lib.rt:65:13
-node-returns : (t : ℕ) → node-lts.Need-returns (
-  first-step-reads.Asked,
-  first-step-reads.Learnt,
-  price-reads.Asked,
-  price-reads.Learnt,
-  is-open-reads.Asked,
-  is-open-reads.Learnt,
-  with-shares-reads.Asked,
-  with-shares-reads.Learnt,
-  may-keep-reads.Asked,
-  may-keep-reads.Learnt,
-  is-own-reads.Asked,
-  is-own-reads.Learnt,
-  leaf-reads.Asked,
-  leaf-reads.Learnt,
-  node-below t,
-  node.Post,
-) (node-at t) node.Post node-Inv-loop node-μ-loop
+node-returns : (t : ℕ) → node-lts.Need-returns (claims t) (node-at t) node.Post node-Inv-loop node-μ-loop
 node-returns t c =
     let x = c .before .before .before .before .before .before .before .before .before in
     let a = x .args in
@@ -255,25 +114,7 @@ node-returns t c =
     let l = (c .before .before .loop) in
     (rw (toZ-ofZ (x .fits .budget)) at (going-full (a .n) (a .m) (a .w) (now (a .sets)) (now (a .weights)) (now (a .lb)) (now (a .ub)) (now (a .coefs)) (now (a .values)) (now (a .arcs)) (now (a .cells)) (a .own) (a .n - a .left) (a .j) (now (a .totals)) (back (a .budget)) (now (a .plan)) (a .cap) (now (a .page)) (a .seen) (l .page) (l .t) (l .v) ((c .if1) .taken) (l .inv .5)), (l .inv .2, (l .inv .1, l .inv .4)))
 
--- src/lib.rt:67:23
-node-mul-b : (t : ℕ) → node-lts.Need-mul-b (
-  first-step-reads.Asked,
-  first-step-reads.Learnt,
-  price-reads.Asked,
-  price-reads.Learnt,
-  is-open-reads.Asked,
-  is-open-reads.Learnt,
-  with-shares-reads.Asked,
-  with-shares-reads.Learnt,
-  may-keep-reads.Asked,
-  may-keep-reads.Learnt,
-  is-own-reads.Asked,
-  is-own-reads.Learnt,
-  leaf-reads.Asked,
-  leaf-reads.Learnt,
-  node-below t,
-  node.Post,
-) (node-at t) node.Post node-Inv-loop node-μ-loop
+node-mul-b : (t : ℕ) → node-lts.Need-mul-b (claims t) (node-at t) node.Post node-Inv-loop node-μ-loop
 node-mul-b t c =
     let x = c .before .before .before .before .before .before .before .before .before in
     let a = x .args in
@@ -283,25 +124,7 @@ node-mul-b t c =
     let below : i < a .n = omega (arith, x .pre .1 .2) in
     omega (arith, row-few g i (omega arith))
 
--- src/lib.rt:67:23
-node-add-b : (t : ℕ) → node-lts.Need-add-b (
-  first-step-reads.Asked,
-  first-step-reads.Learnt,
-  price-reads.Asked,
-  price-reads.Learnt,
-  is-open-reads.Asked,
-  is-open-reads.Learnt,
-  with-shares-reads.Asked,
-  with-shares-reads.Learnt,
-  may-keep-reads.Asked,
-  may-keep-reads.Learnt,
-  is-own-reads.Asked,
-  is-own-reads.Learnt,
-  leaf-reads.Asked,
-  leaf-reads.Learnt,
-  node-below t,
-  node.Post,
-) (node-at t) node.Post node-Inv-loop node-μ-loop
+node-add-b : (t : ℕ) → node-lts.Need-add-b (claims t) (node-at t) node.Post node-Inv-loop node-μ-loop
 node-add-b t c =
     let x = c .before .before .before .before .before .before .before .before .before in
     let a = x .args in
@@ -311,25 +134,7 @@ node-add-b t c =
     let below : i < a .n = omega (arith, x .pre .1 .2) in
     omega (arith, row-few g i (omega arith), x .pre .1 .3, g .nodes-few)
 
--- src/lib.rt:67:22
-node-mul-b-2 : (t : ℕ) → node-lts.Need-mul-b-2 (
-  first-step-reads.Asked,
-  first-step-reads.Learnt,
-  price-reads.Asked,
-  price-reads.Learnt,
-  is-open-reads.Asked,
-  is-open-reads.Learnt,
-  with-shares-reads.Asked,
-  with-shares-reads.Learnt,
-  may-keep-reads.Asked,
-  may-keep-reads.Learnt,
-  is-own-reads.Asked,
-  is-own-reads.Learnt,
-  leaf-reads.Asked,
-  leaf-reads.Learnt,
-  node-below t,
-  node.Post,
-) (node-at t) node.Post node-Inv-loop node-μ-loop
+node-mul-b-2 : (t : ℕ) → node-lts.Need-mul-b-2 (claims t) (node-at t) node.Post node-Inv-loop node-μ-loop
 node-mul-b-2 t c =
     let x = c .before .before .before .before .before .before .before .before .before in
     let a = x .args in
@@ -339,25 +144,7 @@ node-mul-b-2 t c =
     let below : i < a .n = omega (arith, x .pre .1 .2) in
     omega (arith, row-few g i (omega arith), x .pre .1 .3, g .nodes-few)
 
--- src/lib.rt:67:22
-node-add-b-2 : (t : ℕ) → node-lts.Need-add-b-2 (
-  first-step-reads.Asked,
-  first-step-reads.Learnt,
-  price-reads.Asked,
-  price-reads.Learnt,
-  is-open-reads.Asked,
-  is-open-reads.Learnt,
-  with-shares-reads.Asked,
-  with-shares-reads.Learnt,
-  may-keep-reads.Asked,
-  may-keep-reads.Learnt,
-  is-own-reads.Asked,
-  is-own-reads.Learnt,
-  leaf-reads.Asked,
-  leaf-reads.Learnt,
-  node-below t,
-  node.Post,
-) (node-at t) node.Post node-Inv-loop node-μ-loop
+node-add-b-2 : (t : ℕ) → node-lts.Need-add-b-2 (claims t) (node-at t) node.Post node-Inv-loop node-μ-loop
 node-add-b-2 t c =
     let x = c .before .before .before .before .before .before .before .before .before in
     let a = x .args in
@@ -367,25 +154,7 @@ node-add-b-2 t c =
     let below : i < a .n = omega (arith, x .pre .1 .2) in
     omega (arith, row-few g i (omega arith), x .pre .1 .3, g .nodes-few, (c .before .loop-test) .taken)
 
--- src/lib.rt:67:17
-node-shared-slice-read-b : (t : ℕ) → node-lts.Need-shared-slice-read-b (
-  first-step-reads.Asked,
-  first-step-reads.Learnt,
-  price-reads.Asked,
-  price-reads.Learnt,
-  is-open-reads.Asked,
-  is-open-reads.Learnt,
-  with-shares-reads.Asked,
-  with-shares-reads.Learnt,
-  may-keep-reads.Asked,
-  may-keep-reads.Learnt,
-  is-own-reads.Asked,
-  is-own-reads.Learnt,
-  leaf-reads.Asked,
-  leaf-reads.Learnt,
-  node-below t,
-  node.Post,
-) (node-at t) node.Post node-Inv-loop node-μ-loop
+node-shared-slice-read-b : (t : ℕ) → node-lts.Need-shared-slice-read-b (claims t) (node-at t) node.Post node-Inv-loop node-μ-loop
 node-shared-slice-read-b t c =
     let x = c .before .before .before .before .before .before .before .before .before .before in
     let a = x .args in
@@ -395,25 +164,7 @@ node-shared-slice-read-b t c =
     let below : i < a .n = omega (arith, x .pre .1 .2) in
     rw (g .bytes) (arc-place i (a .j) ((c .before .before .before .loop) .v) (a .n) (a .w) below (x .pre .1 .3) ((c .before .before .loop-test) .taken))
 
--- src/lib.rt:67:17
-node-cast-b : (t : ℕ) → node-lts.Need-cast-b (
-  first-step-reads.Asked,
-  first-step-reads.Learnt,
-  price-reads.Asked,
-  price-reads.Learnt,
-  is-open-reads.Asked,
-  is-open-reads.Learnt,
-  with-shares-reads.Asked,
-  with-shares-reads.Learnt,
-  may-keep-reads.Asked,
-  may-keep-reads.Learnt,
-  is-own-reads.Asked,
-  is-own-reads.Learnt,
-  leaf-reads.Asked,
-  leaf-reads.Learnt,
-  node-below t,
-  node.Post,
-) (node-at t) node.Post node-Inv-loop node-μ-loop
+node-cast-b : (t : ℕ) → node-lts.Need-cast-b (claims t) (node-at t) node.Post node-Inv-loop node-μ-loop
 node-cast-b t c =
     let x = c .before .before .before .before .before .before .before .before .before .before in
     let a = x .args in
@@ -426,25 +177,7 @@ node-cast-b t c =
     let few = byte-few g ((i * a .w + a .j) * 8 + v) in
     omega (arith, few, g .nodes-few)
 
--- src/lib.rt:68:29
-node-price-requires : (t : ℕ) → node-lts.Need-price-requires (
-  first-step-reads.Asked,
-  first-step-reads.Learnt,
-  price-reads.Asked,
-  price-reads.Learnt,
-  is-open-reads.Asked,
-  is-open-reads.Learnt,
-  with-shares-reads.Asked,
-  with-shares-reads.Learnt,
-  may-keep-reads.Asked,
-  may-keep-reads.Learnt,
-  is-own-reads.Asked,
-  is-own-reads.Learnt,
-  leaf-reads.Asked,
-  leaf-reads.Learnt,
-  node-below t,
-  node.Post,
-) (node-at t) node.Post node-Inv-loop node-μ-loop
+node-price-requires : (t : ℕ) → node-lts.Need-price-requires (claims t) (node-at t) node.Post node-Inv-loop node-μ-loop
 node-price-requires t c κs =
     let x = c .before .before .before .before .before .before .before .before .before .before in
     let a = x .args in
@@ -454,25 +187,7 @@ node-price-requires t c κs =
     let below : i < a .n = omega (arith, x .pre .1 .2) in
     ((c .before .before .loop-test) .taken, back-within (g .priced i below) tt)
 
--- src/lib.rt:68:20
-node-sub-rest : (t : ℕ) → node-lts.Need-sub-rest (
-  first-step-reads.Asked,
-  first-step-reads.Learnt,
-  price-reads.Asked,
-  price-reads.Learnt,
-  is-open-reads.Asked,
-  is-open-reads.Learnt,
-  with-shares-reads.Asked,
-  with-shares-reads.Learnt,
-  may-keep-reads.Asked,
-  may-keep-reads.Learnt,
-  is-own-reads.Asked,
-  is-own-reads.Learnt,
-  leaf-reads.Asked,
-  leaf-reads.Learnt,
-  node-below t,
-  node.Post,
-) (node-at t) node.Post node-Inv-loop node-μ-loop
+node-sub-rest : (t : ℕ) → node-lts.Need-sub-rest (claims t) (node-at t) node.Post node-Inv-loop node-μ-loop
 node-sub-rest t c =
     let x = c .before .before .before .before .before .before .before .before .before .before .before in
     let a = x .args in
@@ -483,46 +198,10 @@ node-sub-rest t c =
     let n24 = g .slots-few in
     dif-fits (budget-small i (omega arith) (x .pre .1 .5)) (widen tt ((c .price) .ensures .1))
 
--- src/lib.rt:69:41
-node-add-is-open : (t : ℕ) → node-lts.Need-add-is-open (
-  first-step-reads.Asked,
-  first-step-reads.Learnt,
-  price-reads.Asked,
-  price-reads.Learnt,
-  is-open-reads.Asked,
-  is-open-reads.Learnt,
-  with-shares-reads.Asked,
-  with-shares-reads.Learnt,
-  may-keep-reads.Asked,
-  may-keep-reads.Learnt,
-  is-own-reads.Asked,
-  is-own-reads.Learnt,
-  leaf-reads.Asked,
-  leaf-reads.Learnt,
-  node-below t,
-  node.Post,
-) (node-at t) node.Post node-Inv-loop node-μ-loop
+node-add-is-open : (t : ℕ) → node-lts.Need-add-is-open (claims t) (node-at t) node.Post node-Inv-loop node-μ-loop
 node-add-is-open t c = search needs
 
--- src/lib.rt:69:40
-node-mul-is-open : (t : ℕ) → node-lts.Need-mul-is-open (
-  first-step-reads.Asked,
-  first-step-reads.Learnt,
-  price-reads.Asked,
-  price-reads.Learnt,
-  is-open-reads.Asked,
-  is-open-reads.Learnt,
-  with-shares-reads.Asked,
-  with-shares-reads.Learnt,
-  may-keep-reads.Asked,
-  may-keep-reads.Learnt,
-  is-own-reads.Asked,
-  is-own-reads.Learnt,
-  leaf-reads.Asked,
-  leaf-reads.Learnt,
-  node-below t,
-  node.Post,
-) (node-at t) node.Post node-Inv-loop node-μ-loop
+node-mul-is-open : (t : ℕ) → node-lts.Need-mul-is-open (claims t) (node-at t) node.Post node-Inv-loop node-μ-loop
 node-mul-is-open t c =
     let x = c .before .before .before .before .before .before .before .before .before .before .before in
     let a = x .args in
@@ -532,25 +211,7 @@ node-mul-is-open t c =
     let below : i < a .n = omega (arith, x .pre .1 .2) in
     omega (arith, row-few g (i + 1) (omega arith))
 
--- src/lib.rt:69:12
-node-is-open-requires : (t : ℕ) → node-lts.Need-is-open-requires (
-  first-step-reads.Asked,
-  first-step-reads.Learnt,
-  price-reads.Asked,
-  price-reads.Learnt,
-  is-open-reads.Asked,
-  is-open-reads.Learnt,
-  with-shares-reads.Asked,
-  with-shares-reads.Learnt,
-  may-keep-reads.Asked,
-  may-keep-reads.Learnt,
-  is-own-reads.Asked,
-  is-own-reads.Learnt,
-  leaf-reads.Asked,
-  leaf-reads.Learnt,
-  node-below t,
-  node.Post,
-) (node-at t) node.Post node-Inv-loop node-μ-loop
+node-is-open-requires : (t : ℕ) → node-lts.Need-is-open-requires (claims t) (node-at t) node.Post node-Inv-loop node-μ-loop
 node-is-open-requires t c κs =
     let x = c .before .before .before .before .before .before .before .before .before .before .before in
     let a = x .args in
@@ -563,25 +224,7 @@ node-is-open-requires t c κs =
     let few = byte-few g ((i * a .w + a .j) * 8 + v) in
     (g .rules-few, omega (arith, row-few g (i + 1) (omega arith), few, g .nodes-few), cells-few g i b below few)
 
--- src/lib.rt:70:24
-node-with-shares-requires : (t : ℕ) → node-lts.Need-with-shares-requires (
-  first-step-reads.Asked,
-  first-step-reads.Learnt,
-  price-reads.Asked,
-  price-reads.Learnt,
-  is-open-reads.Asked,
-  is-open-reads.Learnt,
-  with-shares-reads.Asked,
-  with-shares-reads.Learnt,
-  may-keep-reads.Asked,
-  may-keep-reads.Learnt,
-  is-own-reads.Asked,
-  is-own-reads.Learnt,
-  leaf-reads.Asked,
-  leaf-reads.Learnt,
-  node-below t,
-  node.Post,
-) (node-at t) node.Post node-Inv-loop node-μ-loop
+node-with-shares-requires : (t : ℕ) → node-lts.Need-with-shares-requires (claims t) (node-at t) node.Post node-Inv-loop node-μ-loop
 node-with-shares-requires t c κs =
     let x = c .before .before .before .before .before .before .before .before .before .before .before .before .before in
     let a = x .args in
@@ -592,46 +235,10 @@ node-with-shares-requires t c κs =
     let n24 = g .slots-few in
     (omega arith, (c .before .before .before .before .before .loop-test) .taken, g .counted, totals-small i (omega arith) (now (a .totals)) (x .pre .1 .4), x .pre .1 .9, x .pre .1 .10, x .pre .1 .11)
 
--- src/lib.rt:71:24
-node-add-at : (t : ℕ) → node-lts.Need-add-at (
-  first-step-reads.Asked,
-  first-step-reads.Learnt,
-  price-reads.Asked,
-  price-reads.Learnt,
-  is-open-reads.Asked,
-  is-open-reads.Learnt,
-  with-shares-reads.Asked,
-  with-shares-reads.Learnt,
-  may-keep-reads.Asked,
-  may-keep-reads.Learnt,
-  is-own-reads.Asked,
-  is-own-reads.Learnt,
-  leaf-reads.Asked,
-  leaf-reads.Learnt,
-  node-below t,
-  node.Post,
-) (node-at t) node.Post node-Inv-loop node-μ-loop
+node-add-at : (t : ℕ) → node-lts.Need-add-at (claims t) (node-at t) node.Post node-Inv-loop node-μ-loop
 node-add-at t c = search needs
 
--- src/lib.rt:71:23
-node-mul-at : (t : ℕ) → node-lts.Need-mul-at (
-  first-step-reads.Asked,
-  first-step-reads.Learnt,
-  price-reads.Asked,
-  price-reads.Learnt,
-  is-open-reads.Asked,
-  is-open-reads.Learnt,
-  with-shares-reads.Asked,
-  with-shares-reads.Learnt,
-  may-keep-reads.Asked,
-  may-keep-reads.Learnt,
-  is-own-reads.Asked,
-  is-own-reads.Learnt,
-  leaf-reads.Asked,
-  leaf-reads.Learnt,
-  node-below t,
-  node.Post,
-) (node-at t) node.Post node-Inv-loop node-μ-loop
+node-mul-at : (t : ℕ) → node-lts.Need-mul-at (claims t) (node-at t) node.Post node-Inv-loop node-μ-loop
 node-mul-at t c =
     let x = c .before .before .before .before .before .before .before .before .before .before .before .before .before .before in
     let a = x .args in
@@ -641,25 +248,7 @@ node-mul-at t c =
     let below : i < a .n = omega (arith, x .pre .1 .2) in
     omega (arith, row-few g (i + 1) (omega arith))
 
--- src/lib.rt:71:23
-node-add-at-2 : (t : ℕ) → node-lts.Need-add-at-2 (
-  first-step-reads.Asked,
-  first-step-reads.Learnt,
-  price-reads.Asked,
-  price-reads.Learnt,
-  is-open-reads.Asked,
-  is-open-reads.Learnt,
-  with-shares-reads.Asked,
-  with-shares-reads.Learnt,
-  may-keep-reads.Asked,
-  may-keep-reads.Learnt,
-  is-own-reads.Asked,
-  is-own-reads.Learnt,
-  leaf-reads.Asked,
-  leaf-reads.Learnt,
-  node-below t,
-  node.Post,
-) (node-at t) node.Post node-Inv-loop node-μ-loop
+node-add-at-2 : (t : ℕ) → node-lts.Need-add-at-2 (claims t) (node-at t) node.Post node-Inv-loop node-μ-loop
 node-add-at-2 t c =
     let x = c .before .before .before .before .before .before .before .before .before .before .before .before .before .before in
     let a = x .args in
@@ -672,25 +261,7 @@ node-add-at-2 t c =
     let few = byte-few g ((i * a .w + a .j) * 8 + v) in
     omega (arith, row-few g (i + 1) (omega arith), few, g .nodes-few)
 
--- src/lib.rt:71:23
-node-sub-at : (t : ℕ) → node-lts.Need-sub-at (
-  first-step-reads.Asked,
-  first-step-reads.Learnt,
-  price-reads.Asked,
-  price-reads.Learnt,
-  is-open-reads.Asked,
-  is-open-reads.Learnt,
-  with-shares-reads.Asked,
-  with-shares-reads.Learnt,
-  may-keep-reads.Asked,
-  may-keep-reads.Learnt,
-  is-own-reads.Asked,
-  is-own-reads.Learnt,
-  leaf-reads.Asked,
-  leaf-reads.Learnt,
-  node-below t,
-  node.Post,
-) (node-at t) node.Post node-Inv-loop node-μ-loop
+node-sub-at : (t : ℕ) → node-lts.Need-sub-at (claims t) (node-at t) node.Post node-Inv-loop node-μ-loop
 node-sub-at t c =
     let x = c .before .before .before .before .before .before .before .before .before .before .before .before .before .before in
     let a = x .args in
@@ -705,67 +276,13 @@ node-sub-at t c =
     let one : 0 < b = open-some (a .m) (getD (now (a .sets)) i 0) v b ((i + 1) * a .w) (now (a .cells)) _ led in
     omega (arith, one)
 
--- src/lib.rt:71:47
-node-mul-at-2 : (t : ℕ) → node-lts.Need-mul-at-2 (
-  first-step-reads.Asked,
-  first-step-reads.Learnt,
-  price-reads.Asked,
-  price-reads.Learnt,
-  is-open-reads.Asked,
-  is-open-reads.Learnt,
-  with-shares-reads.Asked,
-  with-shares-reads.Learnt,
-  may-keep-reads.Asked,
-  may-keep-reads.Learnt,
-  is-own-reads.Asked,
-  is-own-reads.Learnt,
-  leaf-reads.Asked,
-  leaf-reads.Learnt,
-  node-below t,
-  node.Post,
-) (node-at t) node.Post node-Inv-loop node-μ-loop
+node-mul-at-2 : (t : ℕ) → node-lts.Need-mul-at-2 (claims t) (node-at t) node.Post node-Inv-loop node-μ-loop
 node-mul-at-2 t c = search needs
 
--- src/lib.rt:71:47
-node-add-at-3 : (t : ℕ) → node-lts.Need-add-at-3 (
-  first-step-reads.Asked,
-  first-step-reads.Learnt,
-  price-reads.Asked,
-  price-reads.Learnt,
-  is-open-reads.Asked,
-  is-open-reads.Learnt,
-  with-shares-reads.Asked,
-  with-shares-reads.Learnt,
-  may-keep-reads.Asked,
-  may-keep-reads.Learnt,
-  is-own-reads.Asked,
-  is-own-reads.Learnt,
-  leaf-reads.Asked,
-  leaf-reads.Learnt,
-  node-below t,
-  node.Post,
-) (node-at t) node.Post node-Inv-loop node-μ-loop
+node-add-at-3 : (t : ℕ) → node-lts.Need-add-at-3 (claims t) (node-at t) node.Post node-Inv-loop node-μ-loop
 node-add-at-3 t c = search needs
 
--- src/lib.rt:71:22
-node-mul-at-3 : (t : ℕ) → node-lts.Need-mul-at-3 (
-  first-step-reads.Asked,
-  first-step-reads.Learnt,
-  price-reads.Asked,
-  price-reads.Learnt,
-  is-open-reads.Asked,
-  is-open-reads.Learnt,
-  with-shares-reads.Asked,
-  with-shares-reads.Learnt,
-  may-keep-reads.Asked,
-  may-keep-reads.Learnt,
-  is-own-reads.Asked,
-  is-own-reads.Learnt,
-  leaf-reads.Asked,
-  leaf-reads.Learnt,
-  node-below t,
-  node.Post,
-) (node-at t) node.Post node-Inv-loop node-μ-loop
+node-mul-at-3 : (t : ℕ) → node-lts.Need-mul-at-3 (claims t) (node-at t) node.Post node-Inv-loop node-μ-loop
 node-mul-at-3 t c =
     let x = c .before .before .before .before .before .before .before .before .before .before .before .before .before .before in
     let a = x .args in
@@ -780,25 +297,7 @@ node-mul-at-3 t c =
     let one : 0 < b = open-some (a .m) (getD (now (a .sets)) i 0) v b ((i + 1) * a .w) (now (a .cells)) _ led in
     omega (arith, cells-small g i b below few, child-end ((i + 1) * a .w + b) (a .m) (omega (arith, one)))
 
--- src/lib.rt:72:16
-node-may-keep-requires : (t : ℕ) → node-lts.Need-may-keep-requires (
-  first-step-reads.Asked,
-  first-step-reads.Learnt,
-  price-reads.Asked,
-  price-reads.Learnt,
-  is-open-reads.Asked,
-  is-open-reads.Learnt,
-  with-shares-reads.Asked,
-  with-shares-reads.Learnt,
-  may-keep-reads.Asked,
-  may-keep-reads.Learnt,
-  is-own-reads.Asked,
-  is-own-reads.Learnt,
-  leaf-reads.Asked,
-  leaf-reads.Learnt,
-  node-below t,
-  node.Post,
-) (node-at t) node.Post node-Inv-loop node-μ-loop
+node-may-keep-requires : (t : ℕ) → node-lts.Need-may-keep-requires (claims t) (node-at t) node.Post node-Inv-loop node-μ-loop
 node-may-keep-requires t c κs =
     let x = c .before .before .before .before .before .before .before .before .before .before .before .before .before .before .before in
     let a = x .args in
@@ -814,46 +313,10 @@ node-may-keep-requires t c κs =
     let n24 = g .slots-few in
     (g .rules-few, omega (arith, cells-few g i b below few, child-end ((i + 1) * a .w + b) (a .m) (omega (arith, one))), g .inside, rw ((c .before .with-shares) .ensures) (totals-small (suc i) (omega arith) (withShares (now (a .coefs)) (now (a .values)) i v (now (a .totals))) (shares-within i v ((c .before .before .before .before .before .before .before .loop-test) .taken) (now (a .coefs)) (now (a .values)) (now (a .totals)) (x .pre .1 .4) (g .counted))))
 
--- src/lib.rt:73:27
-node-cast-plan : (t : ℕ) → node-lts.Need-cast-plan (
-  first-step-reads.Asked,
-  first-step-reads.Learnt,
-  price-reads.Asked,
-  price-reads.Learnt,
-  is-open-reads.Asked,
-  is-open-reads.Learnt,
-  with-shares-reads.Asked,
-  with-shares-reads.Learnt,
-  may-keep-reads.Asked,
-  may-keep-reads.Learnt,
-  is-own-reads.Asked,
-  is-own-reads.Learnt,
-  leaf-reads.Asked,
-  leaf-reads.Learnt,
-  node-below t,
-  node.Post,
-) (node-at t) node.Post node-Inv-loop node-μ-loop
+node-cast-plan : (t : ℕ) → node-lts.Need-cast-plan (claims t) (node-at t) node.Post node-Inv-loop node-μ-loop
 node-cast-plan t c = search needs
 
--- src/lib.rt:73:17
-node-element-write-plan : (t : ℕ) → node-lts.Need-element-write-plan (
-  first-step-reads.Asked,
-  first-step-reads.Learnt,
-  price-reads.Asked,
-  price-reads.Learnt,
-  is-open-reads.Asked,
-  is-open-reads.Learnt,
-  with-shares-reads.Asked,
-  with-shares-reads.Learnt,
-  may-keep-reads.Asked,
-  may-keep-reads.Learnt,
-  is-own-reads.Asked,
-  is-own-reads.Learnt,
-  leaf-reads.Asked,
-  leaf-reads.Learnt,
-  node-below t,
-  node.Post,
-) (node-at t) node.Post node-Inv-loop node-μ-loop
+node-element-write-plan : (t : ℕ) → node-lts.Need-element-write-plan (claims t) (node-at t) node.Post node-Inv-loop node-μ-loop
 node-element-write-plan t c =
     let x = c .before .before .before .before .before .before .before .before .before .before .before .before .before .before .before .before .before in
     let a = x .args in
@@ -864,46 +327,10 @@ node-element-write-plan t c =
     let n24 = g .slots-few in
     omega (arith, below)
 
--- src/lib.rt:74:21
-node-is-own-requires : (t : ℕ) → node-lts.Need-is-own-requires (
-  first-step-reads.Asked,
-  first-step-reads.Learnt,
-  price-reads.Asked,
-  price-reads.Learnt,
-  is-open-reads.Asked,
-  is-open-reads.Learnt,
-  with-shares-reads.Asked,
-  with-shares-reads.Learnt,
-  may-keep-reads.Asked,
-  may-keep-reads.Learnt,
-  is-own-reads.Asked,
-  is-own-reads.Learnt,
-  leaf-reads.Asked,
-  leaf-reads.Learnt,
-  node-below t,
-  node.Post,
-) (node-at t) node.Post node-Inv-loop node-μ-loop
+node-is-own-requires : (t : ℕ) → node-lts.Need-is-own-requires (claims t) (node-at t) node.Post node-Inv-loop node-μ-loop
 node-is-own-requires t c κs = search needs
 
--- src/lib.rt:76:21
-node-leaf-requires : (t : ℕ) → node-lts.Need-leaf-requires (
-  first-step-reads.Asked,
-  first-step-reads.Learnt,
-  price-reads.Asked,
-  price-reads.Learnt,
-  is-open-reads.Asked,
-  is-open-reads.Learnt,
-  with-shares-reads.Asked,
-  with-shares-reads.Learnt,
-  may-keep-reads.Asked,
-  may-keep-reads.Learnt,
-  is-own-reads.Asked,
-  is-own-reads.Learnt,
-  leaf-reads.Asked,
-  leaf-reads.Learnt,
-  node-below t,
-  node.Post,
-) (node-at t) node.Post node-Inv-loop node-μ-loop
+node-leaf-requires : (t : ℕ) → node-lts.Need-leaf-requires (claims t) (node-at t) node.Post node-Inv-loop node-μ-loop
 node-leaf-requires t c κs =
     let x = c .before .before .before .before .before .before .before .before .before .before .before .before .before .before .before .before .before .before .before .before .before in
     let a = x .args in
@@ -914,25 +341,7 @@ node-leaf-requires t c κs =
     let l = (c .before .before .before .before .before .before .before .before .before .before .before .before .before .before .loop) in
     (g .slots-few, rw (l .inv .0) (x .pre .1 .6), rw (l .inv .0) (x .pre .1 .7), rw (length-set (l .plan) i ((c .before .before .before .before .before .before .before .before .before .before .before .before .before .before .loop) .v), l .inv .1) (g .slots-few), l .inv .4)
 
--- src/lib.rt:91:25
-node-sub-node : (t : ℕ) → node-lts.Need-sub-node (
-  first-step-reads.Asked,
-  first-step-reads.Learnt,
-  price-reads.Asked,
-  price-reads.Learnt,
-  is-open-reads.Asked,
-  is-open-reads.Learnt,
-  with-shares-reads.Asked,
-  with-shares-reads.Learnt,
-  may-keep-reads.Asked,
-  may-keep-reads.Learnt,
-  is-own-reads.Asked,
-  is-own-reads.Learnt,
-  leaf-reads.Asked,
-  leaf-reads.Learnt,
-  node-below t,
-  node.Post,
-) (node-at t) node.Post node-Inv-loop node-μ-loop
+node-sub-node : (t : ℕ) → node-lts.Need-sub-node (claims t) (node-at t) node.Post node-Inv-loop node-μ-loop
 node-sub-node t c =
     let x = c .before .before .before .before .before .before .before .before .before .before .before .before .before .before .before .before .before .before .before in
     let a = x .args in
@@ -942,25 +351,7 @@ node-sub-node t c =
     let below : i < a .n = omega (arith, x .pre .1 .2) in
     omega (arith, x .pre .1 .1)
 
--- src/lib.rt:92:25
-node-sub-node-2 : (t : ℕ) → node-lts.Need-sub-node-2 (
-  first-step-reads.Asked,
-  first-step-reads.Learnt,
-  price-reads.Asked,
-  price-reads.Learnt,
-  is-open-reads.Asked,
-  is-open-reads.Learnt,
-  with-shares-reads.Asked,
-  with-shares-reads.Learnt,
-  may-keep-reads.Asked,
-  may-keep-reads.Learnt,
-  is-own-reads.Asked,
-  is-own-reads.Learnt,
-  leaf-reads.Asked,
-  leaf-reads.Learnt,
-  node-below t,
-  node.Post,
-) (node-at t) node.Post node-Inv-loop node-μ-loop
+node-sub-node-2 : (t : ℕ) → node-lts.Need-sub-node-2 (claims t) (node-at t) node.Post node-Inv-loop node-μ-loop
 node-sub-node-2 t c =
     let x = c .before .before .before .before .before .before .before .before .before .before .before .before .before .before .before .before .before .before .before in
     let a = x .args in
@@ -975,25 +366,7 @@ node-sub-node-2 t c =
     let one : 0 < b = open-some (a .m) (getD (now (a .sets)) i 0) v b ((i + 1) * a .w) (now (a .cells)) _ led in
     omega (arith, one)
 
--- src/lib.rt:78:21
-node-node-requires : (t : ℕ) → node-lts.Need-node-requires (
-  first-step-reads.Asked,
-  first-step-reads.Learnt,
-  price-reads.Asked,
-  price-reads.Learnt,
-  is-open-reads.Asked,
-  is-open-reads.Learnt,
-  with-shares-reads.Asked,
-  with-shares-reads.Learnt,
-  may-keep-reads.Asked,
-  may-keep-reads.Learnt,
-  is-own-reads.Asked,
-  is-own-reads.Learnt,
-  leaf-reads.Asked,
-  leaf-reads.Learnt,
-  node-below t,
-  node.Post,
-) (node-at t) node.Post node-Inv-loop node-μ-loop
+node-node-requires : (t : ℕ) → node-lts.Need-node-requires (claims t) (node-at t) node.Post node-Inv-loop node-μ-loop
 node-node-requires t c κs =
     let x = c .before .before .before .before .before .before .before .before .before .before .before .before .before .before .before .before .before .before .before .before .before .before in
     let a = x .args in
@@ -1014,67 +387,13 @@ node-node-requires t c κs =
     let count = one-less (a .n) (a .left) (x .pre .1 .2) (λ e. omega arith) in
     (omega (arith, x .pre .0, some), (g, omega (arith, some, (c .before .before .before .if4) .left), omega (arith, x .pre .1 .2), omega (arith, few, one), rw (count, (c .before .before .before .before .before .before .before .before .with-shares) .ensures) (shares-within i v ((c .before .before .before .before .before .before .before .before .before .before .before .before .before .before .loop-test) .taken) (now (a .coefs)) (now (a .values)) (now (a .totals)) (x .pre .1 .4) (g .counted)), rw (count, dif-back (budget-small i (omega arith) (x .pre .1 .5)) (widen tt ((c .before .before .before .before .before .before .before .before .before .before .before .price) .ensures .1))) (rest-within i (x .pre .1 .5) ((c .before .before .before .before .before .before .before .before .before .before .before .price) .ensures .1)), rw (l .inv .0) (x .pre .1 .6), rw (l .inv .0) (x .pre .1 .7), l .inv .4, x .pre .1 .9, x .pre .1 .10, rw ((c .before .before .before .before .before .before .before .before .with-shares) .ensures) (shares-long i v (omega arith) (now (a .coefs)) (now (a .values)) (now (a .totals)) (x .pre .1 .9) (x .pre .1 .10) (x .pre .1 .11)), length-set (l .plan) i v ∙ l .inv .1))
 
--- src/lib.rt:103:9
-node-add-v : (t : ℕ) → node-lts.Need-add-v (
-  first-step-reads.Asked,
-  first-step-reads.Learnt,
-  price-reads.Asked,
-  price-reads.Learnt,
-  is-open-reads.Asked,
-  is-open-reads.Learnt,
-  with-shares-reads.Asked,
-  with-shares-reads.Learnt,
-  may-keep-reads.Asked,
-  may-keep-reads.Learnt,
-  is-own-reads.Asked,
-  is-own-reads.Learnt,
-  leaf-reads.Asked,
-  leaf-reads.Learnt,
-  node-below t,
-  node.Post,
-) (node-at t) node.Post node-Inv-loop node-μ-loop
+node-add-v : (t : ℕ) → node-lts.Need-add-v (claims t) (node-at t) node.Post node-Inv-loop node-μ-loop
 node-add-v t c = search needs
 
--- src/lib.rt:63:5
-node-loop-less : (t : ℕ) → node-lts.Need-loop-less (
-  first-step-reads.Asked,
-  first-step-reads.Learnt,
-  price-reads.Asked,
-  price-reads.Learnt,
-  is-open-reads.Asked,
-  is-open-reads.Learnt,
-  with-shares-reads.Asked,
-  with-shares-reads.Learnt,
-  may-keep-reads.Asked,
-  may-keep-reads.Learnt,
-  is-own-reads.Asked,
-  is-own-reads.Learnt,
-  leaf-reads.Asked,
-  leaf-reads.Learnt,
-  node-below t,
-  node.Post,
-) (node-at t) node.Post node-Inv-loop node-μ-loop
+node-loop-less : (t : ℕ) → node-lts.Need-loop-less (claims t) (node-at t) node.Post node-Inv-loop node-μ-loop
 node-loop-less t c = search needs
 
--- src/lib.rt:63:5
-node-loop-again : (t : ℕ) → node-lts.Need-loop-again (
-  first-step-reads.Asked,
-  first-step-reads.Learnt,
-  price-reads.Asked,
-  price-reads.Learnt,
-  is-open-reads.Asked,
-  is-open-reads.Learnt,
-  with-shares-reads.Asked,
-  with-shares-reads.Learnt,
-  may-keep-reads.Asked,
-  may-keep-reads.Learnt,
-  is-own-reads.Asked,
-  is-own-reads.Learnt,
-  leaf-reads.Asked,
-  leaf-reads.Learnt,
-  node-below t,
-  node.Post,
-) (node-at t) node.Post node-Inv-loop node-μ-loop
+node-loop-again : (t : ℕ) → node-lts.Need-loop-again (claims t) (node-at t) node.Post node-Inv-loop node-μ-loop
 node-loop-again t c =
     let x = c .before .before .before .before .before .before .before .before .before .before .before .before .before in
     let a = x .args in
@@ -1119,46 +438,10 @@ node-loop-again t c =
     w)
     ((c .if2) .came)
 
--- src/lib.rt:29:1
-node-same-length-2 : (t : ℕ) → node-lts.Need-same-length-2 (
-  first-step-reads.Asked,
-  first-step-reads.Learnt,
-  price-reads.Asked,
-  price-reads.Learnt,
-  is-open-reads.Asked,
-  is-open-reads.Learnt,
-  with-shares-reads.Asked,
-  with-shares-reads.Learnt,
-  may-keep-reads.Asked,
-  may-keep-reads.Learnt,
-  is-own-reads.Asked,
-  is-own-reads.Learnt,
-  leaf-reads.Asked,
-  leaf-reads.Learnt,
-  node-below t,
-  node.Post,
-) (node-at t) node.Post node-Inv-loop node-μ-loop
+node-same-length-2 : (t : ℕ) → node-lts.Need-same-length-2 (claims t) (node-at t) node.Post node-Inv-loop node-μ-loop
 node-same-length-2 t c = search needs
 
--- src/lib.rt:29:1
-node-returns-2 : (t : ℕ) → node-lts.Need-returns-2 (
-  first-step-reads.Asked,
-  first-step-reads.Learnt,
-  price-reads.Asked,
-  price-reads.Learnt,
-  is-open-reads.Asked,
-  is-open-reads.Learnt,
-  with-shares-reads.Asked,
-  with-shares-reads.Learnt,
-  may-keep-reads.Asked,
-  may-keep-reads.Learnt,
-  is-own-reads.Asked,
-  is-own-reads.Learnt,
-  leaf-reads.Asked,
-  leaf-reads.Learnt,
-  node-below t,
-  node.Post,
-) (node-at t) node.Post node-Inv-loop node-μ-loop
+node-returns-2 : (t : ℕ) → node-lts.Need-returns-2 (claims t) (node-at t) node.Post node-Inv-loop node-μ-loop
 node-returns-2 t c =
     let x = c .before .before .before .before .before .before .before .before in
     let a = x .args in
@@ -1170,24 +453,7 @@ node-returns-2 t c =
     (rw (toZ-ofZ (x .fits .budget)) at (going-ends (a .n) (a .m) (a .w) (now (a .sets)) (now (a .weights)) (now (a .lb)) (now (a .ub)) (now (a .coefs)) (now (a .values)) (now (a .arcs)) (now (a .cells)) (a .own) (a .n - a .left) (a .j) (now (a .totals)) (back (a .budget)) (now (a .plan)) (a .cap) (now (a .page)) (a .seen) (l .page) (l .t) (l .v) ((c .loop-test) .left) (l .inv .5)), (l .inv .2, (l .inv .1, l .inv .4)))
 
 pub +node-spec : {M : Type 1} → statement M
-+node-spec = close μ-node λ t. node-lts.spec (
-  first-step-reads.Asked,
-  first-step-reads.Learnt,
-  price-reads.Asked,
-  price-reads.Learnt,
-  is-open-reads.Asked,
-  is-open-reads.Learnt,
-  with-shares-reads.Asked,
-  with-shares-reads.Learnt,
-  may-keep-reads.Asked,
-  may-keep-reads.Learnt,
-  is-own-reads.Asked,
-  is-own-reads.Learnt,
-  leaf-reads.Asked,
-  leaf-reads.Learnt,
-  node-below t,
-  node.Post,
-)
++node-spec = close μ-node λ t. node-lts.spec (claims t)
     (node-at t)
     node.Post
     node-Inv-loop
