@@ -4,18 +4,19 @@ use mathlib.Core.List.{List, map, map-map}
 use Prim.Native.Nat.{ℕ, _+_, _≤_, _<_}
 use native.Mathlib.Omega.{arith}
 use lib.ListN.{length, getD, set, replicate, length-map}
-use lib.IntN.{pos, negℤ, _-ℤ_}
+use lib.IntN.{ℤ, pos, negℤ, _-ℤ_}
 use Rattle.laws.specs.Z.{Within, widen, back, back-is}
 use Rattle.laws.specs.Lists.{from, padded}
 use Rattle.laws.proofs.Each.{each-map, each-from}
+use Rattle.laws.proofs.Lists.{length-from}
 use Rattle.laws.proofs.Filled.{length-padded, take-padded, getD-padded}
 use Rattle.meaning.specs.Problem.{version1, ruleOf}
 use Rattle.meaning.specs.Diagram as paper
 use Rattle.problem.specs.declared.Problem.{Problem}
 use Rattle.problem.specs.Held.{saidAt, campaignOf}
 use Rattle.problem.proofs.Faultless.{Right}
+use Rattle.numbers.specs.Whole.{Bounding}
 use Rattle.lent.proofs.Places.{made-at}
-use Rattle.slot.proofs.Said.{rules-long}
 use Rattle.state.specs.declared.Pair.{Pair}
 use Rattle.state.specs.Pairs.{pairOf, Inside}
 use Rattle.lent.proofs.Lanes.{neg-neg}
@@ -23,45 +24,45 @@ use Rattle.rows.proofs.Cells.{turned}
 use Rattle.state.proofs.Joined.{noPair}
 use Rattle.state.proofs.Padded.{boundsOf, inside-padded}
 use Rattle.state.proofs.Turns.{filled, stored}
+use Rattle.building.specs.Layers.{boundsAt}
 use Rattle.building.proofs.Lists.{padded-front}
 
 -- the bounds of every rule
 abbrev pub boundsIn : Problem → paper.State
 boundsIn p = map boundsOf (campaignOf p .rules)
 
-pub record Bounded (p : Problem) (l : List Pair) (r : ℕ) : Type 0 where
-  pub right : Right version1 p
-  pub low : r ≤ p .m
-  pub is : map pairOf l ≡ filled r (padded 8 noPair (boundsIn p)) (replicate 8 noPair)
+pub bounds-said : (p : Problem) → boundsAt (p .m) (p .lb) (p .ub) ≡ boundsIn p
+bounds-said p = let ks = from 0 (p .m) in sym (map-map boundsOf ruleOf (map (saidAt p) ks) ∙ map-map (λ k. (k .ub, k .lb)) (saidAt p) ks)
 
-bounds-long : (p : Problem) → length (boundsIn p) ≡ p .m
-bounds-long p = length-map (campaignOf p .rules) boundsOf ∙ rules-long p
+module _ (m : ℕ) (lbs ubs : List ℤ) where
+  abbrev all : paper.State
+  all = boundsAt m lbs ubs
 
-bound-at : (p : Problem) (r : ℕ) → r < p .m → getD (boundsIn p) r noPair ≡ (getD (p .ub) r (pos 0), getD (p .lb) r (pos 0))
-bound-at p r h =
-    let ks = from 0 (p .m) in
-    ap (λ l. getD l r noPair) (map-map boundsOf ruleOf (map (saidAt p) ks) ∙ map-map (λ k. (k .ub, k .lb)) (saidAt p) ks)
-    ∙ made-at (λ k. (getD (p .ub) k (pos 0), getD (p .lb) k (pos 0))) (p .m) r noPair h
+  pub record Bounded (l : List Pair) (r : ℕ) : Type 0 where
+    pub right : Bounding m lbs ubs
+    pub low : r ≤ m
+    pub is : map pairOf l ≡ filled r (padded 8 noPair all) (replicate 8 noPair)
 
-module _ {p : Problem} {l : List Pair} {r : ℕ} (b : Bounded p l r) where
-  pub bounded-more : (x : Pair) → r < p .m → x ≡ record { lo = back (getD (p .ub) r (pos 0)); hi = back (pos 0 -ℤ back (getD (p .lb) r (pos 0))) } → Bounded p (set l r x) (r + 1)
-  bounded-more x h e =
-      let fields = b .right .rule r h .fields in
-      let few = b .right .head .rules in
-      let value = getD-padded 8 (boundsIn p) r noPair (omega (arith, bounds-long p)) ∙ bound-at p r h in
+  bounds-long : length all ≡ m
+  bounds-long = length-map (from 0 m) (λ k. (getD ubs k (pos 0), getD lbs k (pos 0))) ∙ length-from 0 m
+
+  pub bounded-more : {l : List Pair} {r : ℕ} → Bounded l r → (x : Pair) → r < m → x ≡ record { lo = back (getD ubs r (pos 0)); hi = back (pos 0 -ℤ back (getD lbs r (pos 0))) } → Bounded (set l r x) (r + 1)
+  bounded-more {l} {r} b x h e =
+      let few = b .right .few in
+      let value = getD-padded 8 all r noPair (omega (arith, bounds-long)) ∙ made-at (λ k. (getD ubs k (pos 0), getD lbs k (pos 0))) m r noPair h in
       record {
         right = b .right;
         low = omega arith;
         is =
-            stored pairOf l r x (padded 8 noPair (boundsIn p)) (replicate 8 noPair) noPair (omega (arith, length-padded noPair 8 (boundsIn p))) (omega arith) (b .is)
-            (ap pairOf e ∙ (λ d. (back-is (fields .high) tt d, (ap negℤ (turned (fields .low) tt) ∙ neg-neg (getD (p .lb) r (pos 0))) d)) ∙ sym value);
+            stored pairOf l r x (padded 8 noPair all) (replicate 8 noPair) noPair (omega (arith, length-padded noPair 8 all)) (omega arith) (b .is)
+            (ap pairOf e ∙ (λ d. (back-is (b .right .high r h) tt d, (ap negℤ (turned (b .right .low r h) tt) ∙ neg-neg (getD lbs r (pos 0))) d)) ∙ sym value);
       }
 
-  pub bounded-end : p .m ≤ r → map pairOf l ≡ padded 8 noPair (boundsIn p)
-  bounded-end h =
-      let few : length (boundsIn p) ≤ 8 = omega (arith, bounds-long p, b .right .head .rules) in
-      let all : r ≡ length (boundsIn p) = omega (arith, bounds-long p, b .low) in
-      b .is ∙ rw (all, take-padded noPair 8 (boundsIn p) few) (padded-front noPair 8 (boundsIn p) few)
+  pub bounded-end : {l : List Pair} {r : ℕ} → Bounded l r → m ≤ r → map pairOf l ≡ padded 8 noPair all
+  bounded-end {l} {r} b h =
+      let few : length all ≤ 8 = omega (arith, bounds-long, b .right .few) in
+      let whole : r ≡ length all = omega (arith, bounds-long, b .low) in
+      b .is ∙ rw (whole, take-padded noPair 8 all few) (padded-front noPair 8 all few)
 
 -- how large they are
 pub bounds-inside : (p : Problem) → Right version1 p → Inside 10000000 (padded 8 noPair (boundsIn p))

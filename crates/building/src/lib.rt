@@ -14,10 +14,10 @@ ghost use Rattle.meaning.specs.Buffers.{arcsNeed, cellsNeed, arcBytes};
 ghost use Rattle.problem.specs.Held.{faultIn, campaignOf};
 ghost use Rattle.state.specs.Pairs.{pairs};
 ghost use Rattle.lent.specs.Wide.{wide};
-ghost use Rattle.numbers.specs.Whole.{halfCells};
+ghost use Rattle.numbers.specs.Whole.{Bounding, halfCells};
 ghost use Rattle.classes.specs.Classes.{Held, Totalled, arrivalAt};
 ghost use Rattle.layer.specs.Places.{builderOf};
-ghost use Rattle.building.specs.Layers.{Made};
+ghost use Rattle.building.specs.Layers.{boundsAt, Made};
 use lanes::FAR;
 use lanes::LANES;
 use problem::Problem;
@@ -25,16 +25,16 @@ use state::Pair;
 use state::State;
 
 // The bounds of the rules as a state: no low above ub, no high below lb.
-fn bounds_of(p: Problem) -> State
-    requires { ⌜ faultIn version1 p ≡ 0 ⌝ }
-    ensures { λ r. ⌜ pairs r ≡ padded 8 (pos 0, pos 0) (map (λ k. (k .ub, k .lb)) (campaignOf p .rules)) ⌝ }
+fn bounds_of(m: usize, lbs: [i32; 8], ubs: [i32; 8]) -> State
+    requires { ⌜ Bounding m lbs ubs ⌝ }
+    ensures { λ r. ⌜ pairs r ≡ padded 8 (pos 0, pos 0) (boundsAt m lbs ubs) ⌝ }
 {
     let zero = Pair { lo: 0, hi: 0 };
     let mut s = State { at: [zero; 8] };
     let mut r: usize = 0;
-    while r < p.m {
-        let lb = p.lb[r];
-        let ub = p.ub[r];
+    while r < m {
+        let lb = lbs[r];
+        let ub = ubs[r];
         s.at[r] = Pair { lo: ub, hi: -lb };
         r += 1;
     }
@@ -113,7 +113,7 @@ pub fn build(p: Problem, relax: bool, w: usize, arcs: &mut [u8], cells: &mut [i3
     let m = p.m;
     let bytes = w * 8;
     let size = w * (4 * m + 3);
-    let bounds = bounds_of(p);
+    let bounds = bounds_of(m, p.lb, p.ub);
     let mut table = [0i32; 425];
     reach::reaches(p, &mut table);
     zero_bytes(arcs);

@@ -2,14 +2,16 @@
 use mathlib.Core.Path.{_≡_}
 use mathlib.Core.List.{List, map}
 use mathlib.Core.Bool.{true}
-use Prim.Native.Nat.{ℕ, _≤_}
-use lib.ListN.{length, replicate}
+use Prim.Native.Nat.{ℕ, _≤_, _<_}
+use lib.ListN.{length, getD, replicate}
 use lib.IntN.{ℤ, pos}
-use Rattle.laws.specs.Lists.{flat, padded}
+use Rattle.laws.specs.Z.{Within}
+use Rattle.laws.specs.Lists.{flat, from, padded}
 use Rattle.meaning.specs.Plan.{Campaign}
 use Rattle.meaning.specs.Problem.{version1}
 use Rattle.meaning.specs.Filter.{Numbers, zeros}
 use Rattle.meaning.specs.Buffers.{arcsNeed, arcsIn, ofForm, nodeNeed, nodeCells}
+use Rattle.lent.specs.Vec.{lanesOf}
 use Rattle.problem.specs.Held.{faultIn}
 use Rattle.problem.specs.declared.Problem.{Problem}
 
@@ -18,6 +20,16 @@ pub record Ready (p : Problem) (w : ℕ) : Type 0 where
   pub right : faultIn version1 p ≡ 0
   pub some : 1 ≤ w
   pub few : w ≤ 16
+
+-- at most eight rules, each bound in its range
+pub record Bounding (m : ℕ) (lbs ubs : List ℤ) : Type 0 where
+  pub few : m ≤ 8
+  pub low : (r : ℕ) → r < m → Within 200000 (getD lbs r (pos 0))
+  pub high : (r : ℕ) → r < m → Within 200000 (getD ubs r (pos 0))
+
+-- the limit of a round: the bounds of m rules and the ceiling
+abbrev pub limitLanes : ℕ → List ℤ → List ℤ → ℤ → List ℤ
+limitLanes m lbs ubs c = lanesOf (pos 2000000) (map (λ k. getD ubs k (pos 0)) (from 0 m)) (map (λ k. getD lbs k (pos 0)) (from 0 m)) c
 
 -- bytes of exactly the need, of the form "0 to W, for the last slot 0 or 1", whoever made them
 pub record Formed (q : Campaign) (w : ℕ) (b : List ℕ) : Type 0 where

@@ -11,8 +11,8 @@ ghost use Rattle.meaning.specs.Filter.{drops, within, swept, downNumbers, upNum
 ghost use Rattle.meaning.specs.Buffers.{cellsNeed, nodeNeed, arcsIn, allCells};
 ghost use Rattle.problem.specs.Held.{campaignOf};
 ghost use Rattle.lent.specs.Wide.{laid};
-ghost use Rattle.lent.specs.Vec.{rowVec, testOf, limitVec};
-ghost use Rattle.numbers.specs.Whole.{Ready, Formed, halfCells};
+ghost use Rattle.lent.specs.Vec.{rowVec, testOf};
+ghost use Rattle.numbers.specs.Whole.{Ready, Bounding, limitLanes, Formed, halfCells};
 use lanes::FAR;
 use problem::Problem;
 
@@ -26,15 +26,15 @@ pub fn one_node(m: usize) -> [i32; 272]
 }
 
 // The limit of a round: the bounds of the rules and the ceiling; the lanes that no rule has are out of reach.
-fn limit_of(p: Problem, ceiling: i32) -> [i32; 17]
-    requires { ⌜ Ready p 1 ⌝ }
-    ensures { λ r. ⌜ r ≡ limitVec ceiling (campaignOf p) ⌝ }
+fn limit_of(m: usize, lbs: [i32; 8], ubs: [i32; 8], ceiling: i32) -> [i32; 17]
+    requires { ⌜ Bounding m lbs ubs ⌝ }
+    ensures { λ r. ⌜ r ≡ limitLanes m lbs ubs ceiling ⌝ }
 {
     let mut x = [2000000i32; 17];
     let mut r: usize = 0;
-    while r < p.m {
-        let lb = p.lb[r];
-        let ub = p.ub[r];
+    while r < m {
+        let lb = lbs[r];
+        let ub = ubs[r];
         x[r] = ub;
         x[8 + r] = -lb;
         r += 1;
@@ -92,7 +92,7 @@ fn ups(p: Problem, w: usize, free: bool, ceiling: i32, arcs: &mut [u8], cells: &
     let m = p.m;
     let bytes = w * 8;
     let size = w * (4 * m + 3);
-    let limit = limit_of(p, ceiling);
+    let limit = limit_of(m, p.lb, p.ub, ceiling);
     let mut next = one_node(m);
     let mut spare = [FAR; 272];
     let mut room = [FAR; 272];

@@ -3,44 +3,42 @@ use mathlib.Core.Path.{refl}
 use Prim.Native.Nat.{_-_}
 use native.Mathlib.Omega.{arith}
 use borrow.Author.Needs.{needs}
-use Rattle.meaning.specs.Problem.{version1}
-use Rattle.problem.proofs.Faultless.{right}
 use Rattle.building.proofs.Bounds.{Bounded, bounded-more, bounded-end}
 use Rattle.rows.proofs.Cells.{turn-fits}
 use Rattle.building.proofs.bounds_of.Statement.{statement}
 use Rattle.building.proofs.bounds_of.Tie as tie
 
 abbrev Inv-loop : tie.InvT-loop
-Inv-loop p s₀ r₀ s r = Bounded p (s .at) r
+Inv-loop m lbs ubs s₀ r₀ s r = Bounded m lbs ubs (s .at) r
 
 abbrev μ-loop : tie.MeasureT-loop
-μ-loop p s₀ r₀ s r = p .m - r
+μ-loop m lbs ubs s₀ r₀ s r = m - r
 
 loop-holds : tie.Need-loop-holds Inv-loop μ-loop
-loop-holds c = record { right = right version1 (c .args .t1) (c .pre); low = omega arith; is = refl }
+loop-holds c = record { right = c .pre; low = omega arith; is = refl }
 
 mul-lb : tie.Need-mul-lb Inv-loop μ-loop
 mul-lb c = search needs
 
-element-copy-out-lb : tie.Need-element-copy-out-lb Inv-loop μ-loop
-element-copy-out-lb c = omega (arith, c .before .loop .inv .right .head .rules)
+array-copy-out-lb : tie.Need-array-copy-out-lb Inv-loop μ-loop
+array-copy-out-lb c = omega (arith, c .before .loop .inv .right .few)
 
 mul-ub : tie.Need-mul-ub Inv-loop μ-loop
 mul-ub c = search needs
 
-element-copy-out-ub : tie.Need-element-copy-out-ub Inv-loop μ-loop
-element-copy-out-ub c = omega (arith, c .before .before .loop .inv .right .head .rules)
+array-copy-out-ub : tie.Need-array-copy-out-ub Inv-loop μ-loop
+array-copy-out-ub c = omega (arith, c .before .before .loop .inv .right .few)
 
-sub-t13 : tie.Need-sub-t13 Inv-loop μ-loop
-sub-t13 c =
+sub-t16 : tie.Need-sub-t16 Inv-loop μ-loop
+sub-t16 c =
     let l = c .before .before .before .loop in
-    turn-fits (l .inv .right .rule (l .r) (c .before .before .loop-test .taken) .fields .low) tt
+    turn-fits (l .inv .right .low (l .r) (c .before .before .loop-test .taken)) tt
 
-mul-t9 : tie.Need-mul-t9 Inv-loop μ-loop
-mul-t9 c = search needs
+mul-t13 : tie.Need-mul-t13 Inv-loop μ-loop
+mul-t13 c = search needs
 
 element-set-from-s : tie.Need-element-set-from-s Inv-loop μ-loop
-element-set-from-s c = omega (arith, c .before .before .before .loop .inv .right .head .rules)
+element-set-from-s c = omega (arith, c .before .before .before .loop .inv .right .few)
 
 add-r : tie.Need-add-r Inv-loop μ-loop
 add-r c = search needs
@@ -49,10 +47,10 @@ loop-less : tie.Need-loop-less Inv-loop μ-loop
 loop-less c = search needs
 
 loop-again : tie.Need-loop-again Inv-loop μ-loop
-loop-again c = bounded-more (c .before .before .before .loop .inv) _ (c .before .before .loop-test .taken) refl
+loop-again c = (let a = c .before .before .before .before .args in bounded-more (a .m) (a .t2) (a .t3)) (c .before .before .before .loop .inv) _ (c .before .before .loop-test .taken) refl
 
 returns : tie.Need-returns Inv-loop μ-loop
-returns c = bounded-end (c .before .loop .inv) (c .loop-test .left)
+returns c = (let a = c .before .before .args in bounded-end (a .m) (a .t2) (a .t3)) (c .before .loop .inv) (c .loop-test .left)
 
 pub bounds-of-spec : {M : Type 1} → statement M
 bounds-of-spec =
@@ -62,11 +60,11 @@ bounds-of-spec =
     μ-loop
     loop-holds
     mul-lb
-    element-copy-out-lb
+    array-copy-out-lb
     mul-ub
-    element-copy-out-ub
-    sub-t13
-    mul-t9
+    array-copy-out-ub
+    sub-t16
+    mul-t13
     element-set-from-s
     add-r
     loop-less

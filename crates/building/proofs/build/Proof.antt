@@ -10,6 +10,10 @@ use denote.Ref.{now}
 use Rattle.problem.proofs.Arrays.{long}
 use Rattle.numbers.proofs.Passes.{few-rules, few-size, spare-start}
 use Rattle.state.specs.Pairs.{pairs, lessened}
+use Rattle.laws.specs.Lists.{padded}
+use Rattle.state.proofs.Joined.{noPair}
+use Rattle.numbers.proofs.Limit.{bounding}
+use Rattle.building.proofs.Bounds.{bounds-said}
 use Rattle.building.proofs.Problems.{Going, ready-of, going-start, going-here, going-cells, going-downs, going-slot, going-slot-row, going-taken, going-limit, row-long, going-room, going-layer, places-in, going-room-next, going-last, going-downs-last, going-long, going-next, going-more, going-same, going-end, zeros-long}
 use Rattle.building.proofs.build.Statement.{statement}
 use Rattle.building.proofs.build.Tie as tie
@@ -34,13 +38,13 @@ mul-size-2 : tie.Need-mul-size-2 Inv-loop μ-loop
 mul-size-2 c = omega (arith, few-size {p = c .before .args .t1} {w = c .before .args .w} (ready-of (c .before .pre .0) (c .before .pre .1) (c .before .pre .2)))
 
 bounds-of-requires : tie.Need-bounds-of-requires Inv-loop μ-loop
-bounds-of-requires c κs = c .before .pre .0
+bounds-of-requires c κs = let x = c .before .before .before in bounding (x .args .t1) (x .pre .0)
 
 slice-aggregate-reaches : tie.Need-slice-aggregate-reaches Inv-loop μ-loop
 slice-aggregate-reaches c = refl
 
 reaches-requires : tie.Need-reaches-requires Inv-loop μ-loop
-reaches-requires c κs = (c .before .before .before .pre .0, refl)
+reaches-requires c κs = (c .before .before .before .before .before .pre .0, refl)
 
 zero-bytes-requires : tie.Need-zero-bytes-requires Inv-loop μ-loop
 zero-bytes-requires c κs = tt
@@ -50,11 +54,11 @@ one-node-requires c κs = tt
 
 loop-holds : tie.Need-loop-holds Inv-loop μ-loop
 loop-holds c =
-    let x = c .before .before .before .before .before .before .before .before .before .before in
+    let x = c .before .before .before .before .before .before .before .before .before .before .before .before in
     let p = x .args .t1 in
     let sets : length (p .sets) ≡ 24 = search long in
     going-start p (x .args .relax) (x .args .w) (pairs (c .before .before .before .before .before .before .before .before .bounds-of .result)) (c .before .before .before .before .before .before .reaches .last .1 .0) (now (x .args .arcs)) (c .before .before .before .zero-bytes .last .0) (now (x .args .cells)) (c .one-node .result) (replicate 272 (pos 4000000)) (replicate 136 (pos 0))
-    (ready-of (x .pre .0) (x .pre .1) (x .pre .2)) sets (x .pre .3) (c .before .before .before .before .before .before .before .before .bounds-of .ensures) (c .before .before .before .before .before .before .reaches .ensures) (c .before .before .before .zero-bytes .ensures) (x .pre .4) (c .one-node .ensures) spare-start refl
+    (ready-of (x .pre .0) (x .pre .1) (x .pre .2)) sets (x .pre .3) (c .before .before .before .before .before .before .before .before .bounds-of .ensures ∙ ap (padded 8 noPair) (bounds-said p)) (c .before .before .before .before .before .before .reaches .ensures) (c .before .before .before .zero-bytes .ensures) (x .pre .4) (c .one-node .ensures) spare-start refl
 
 slice-aggregate-put-downs : tie.Need-slice-aggregate-put-downs Inv-loop μ-loop
 slice-aggregate-put-downs c = sym (going-here (c .before .before .loop .inv) .long)
@@ -154,7 +158,7 @@ part-build-layer-end c = omega (arith, going-room (c .before .before .before .be
 build-layer-requires : tie.Need-build-layer-requires Inv-loop μ-loop
 build-layer-requires c κs =
     let a = going-layer (c .before .before .before .before .before .before .before .before .before .before .before .before .before .before .before .before .before .before .before .before .before .before .before .loop .inv) (c .before .before .before .before .before .before .before .before .before .before .before .before .before .before .before .before .before .before .before .before .before .before .loop-test .taken) (c .before .before .before .before .before .before .before .before .before .slot-row .ensures) in
-    let p = places-in (c .before .before .before .before .before .before .before .before .before .before .before .before .before .before .before .before .before .before .before .before .before .before .before .loop .inv) (eqb (c .before .before .before .before .before .before .before .before .before .before .before .before .before .before .before .before .before .before .before .before .before .before .before .loop .i + 1) (c .before .before .before .before .before .before .before .before .before .before .before .before .before .before .before .before .before .before .before .before .before .before .before .before .before .before .before .before .before .before .before .before .before .before .args .t1 .n)) (c .before .before .before .places .ensures) in
+    let p = places-in (c .before .before .before .before .before .before .before .before .before .before .before .before .before .before .before .before .before .before .before .before .before .before .before .loop .inv) (eqb (c .before .before .before .before .before .before .before .before .before .before .before .before .before .before .before .before .before .before .before .before .before .before .before .loop .i + 1) (c .before .before .before .before .before .before .before .before .before .before .before .before .before .before .before .before .before .before .before .before .before .before .before .before .before .before .before .before .before .before .before .before .before .before .before .before .args .t1 .n)) (c .before .before .before .places .ensures) in
     (a .0, a .1, p .0, p .1, a .2)
 
 slice-aggregate-next-down : tie.Need-slice-aggregate-next-down Inv-loop μ-loop
@@ -232,14 +236,14 @@ put-downs-requires-2 : tie.Need-put-downs-requires-2 Inv-loop μ-loop
 put-downs-requires-2 c κs = going-downs-last (c .before .before .before .loop .inv) (c .before .before .loop-test .left)
 
 same-length : tie.Need-same-length Inv-loop μ-loop
-same-length c = going-long (c .before .before .before .before .before .loop .inv) ∙ zeros-long (length (now (c .before .before .before .before .before .before .before .before .before .before .before .before .before .before .before .before .args .arcs))) (c .before .before .before .before .before .before .before .before .before .zero-bytes .ensures)
+same-length c = going-long (c .before .before .before .before .before .loop .inv) ∙ zeros-long (length (now (c .before .before .before .before .before .before .before .before .before .before .before .before .before .before .before .before .before .before .args .arcs))) (c .before .before .before .before .before .before .before .before .before .zero-bytes .ensures)
 
 same-length-2 : tie.Need-same-length-2 Inv-loop μ-loop
-same-length-2 c = going-same (c .before .before .before .before .before .loop .inv) (c .before .before .before .before .before .before .before .before .before .before .before .before .before .before .before .before .pre .4) (c .before .put-downs2 .ensures)
+same-length-2 c = going-same (c .before .before .before .before .before .loop .inv) (c .before .before .before .before .before .before .before .before .before .before .before .before .before .before .before .before .before .before .pre .4) (c .before .put-downs2 .ensures)
 
 returns : tie.Need-returns Inv-loop μ-loop
 returns c =
-    let n = length (now (c .before .before .before .before .before .before .before .before .before .before .before .before .before .before .before .before .args .arcs)) in
+    let n = length (now (c .before .before .before .before .before .before .before .before .before .before .before .before .before .before .before .before .before .before .args .arcs)) in
     let e = going-end (c .before .before .before .before .before .loop .inv) n (zeros-long n (c .before .before .before .before .before .before .before .before .before .zero-bytes .ensures)) (c .before .before .before .before .loop-test .left) (c .before .put-downs2 .ensures) in
     (e .0, (e .1, e .2))
 

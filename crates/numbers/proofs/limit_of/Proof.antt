@@ -6,31 +6,31 @@ use lib.IntN.{pos}
 use mir.Facts.{toZ-ofZ}
 use Rattle.laws.specs.Z.{told}
 use Rattle.rows.proofs.Cells.{turn-fits, turned}
-use Rattle.numbers.proofs.Limit.{Bounds, bounds-start, bounds-more, bounds-end, low-within}
+use Rattle.numbers.proofs.Limit.{Bounds, bounds-start, bounds-more, bounds-end}
 use borrow.Author.Needs.{needs}
 use Rattle.numbers.proofs.limit_of.Statement.{statement}
 use Rattle.numbers.proofs.limit_of.Tie as tie
 
 abbrev Inv-loop : tie.InvT-loop
-Inv-loop ceiling p x₀ r₀ x r = Bounds p x r
+Inv-loop m ceiling lbs ubs x₀ r₀ x r = Bounds m lbs ubs x r
 
 abbrev μ-loop : tie.MeasureT-loop
-μ-loop ceiling p x₀ r₀ x r = p .m - r
+μ-loop m ceiling lbs ubs x₀ r₀ x r = m - r
 
 loop-holds : tie.Need-loop-holds Inv-loop μ-loop
-loop-holds c = bounds-start (c .args .t1) (c .pre)
+loop-holds c = bounds-start (c .args .m) (c .args .t2) (c .args .t3) (c .pre)
 
 mul-lb : tie.Need-mul-lb Inv-loop μ-loop
 mul-lb c = omega (arith, c .before .loop .inv .few, c .loop-test .taken)
 
-element-copy-out-lb : tie.Need-element-copy-out-lb Inv-loop μ-loop
-element-copy-out-lb c = omega (arith, c .before .loop .inv .few, c .loop-test .taken)
+array-copy-out-lb : tie.Need-array-copy-out-lb Inv-loop μ-loop
+array-copy-out-lb c = omega (arith, c .before .loop .inv .few, c .loop-test .taken)
 
 mul-ub : tie.Need-mul-ub Inv-loop μ-loop
 mul-ub c = omega (arith, c .before .before .loop .inv .few, c .before .loop-test .taken)
 
-element-copy-out-ub : tie.Need-element-copy-out-ub Inv-loop μ-loop
-element-copy-out-ub c = omega (arith, c .before .before .loop .inv .few, c .before .loop-test .taken)
+array-copy-out-ub : tie.Need-array-copy-out-ub Inv-loop μ-loop
+array-copy-out-ub c = omega (arith, c .before .before .loop .inv .few, c .before .loop-test .taken)
 
 mul-x : tie.Need-mul-x Inv-loop μ-loop
 mul-x c = omega (arith, c .before .before .before .loop .inv .few, c .before .before .loop-test .taken)
@@ -39,7 +39,7 @@ array-set-from-x : tie.Need-array-set-from-x Inv-loop μ-loop
 array-set-from-x c = omega (arith, c .before .before .before .loop .inv .few, c .before .before .loop-test .taken)
 
 sub-x : tie.Need-sub-x Inv-loop μ-loop
-sub-x c = turn-fits (low-within (c .before .before .before .before .args .t1) (c .before .before .before .before .pre) (c .before .before .before .loop .r) (c .before .before .loop-test .taken)) tt
+sub-x c = turn-fits (c .before .before .before .before .pre .low (c .before .before .before .loop .r) (c .before .before .loop-test .taken)) tt
 
 add-x : tie.Need-add-x Inv-loop μ-loop
 add-x c = omega (arith, c .before .before .before .loop .inv .few, c .before .before .loop-test .taken)
@@ -58,16 +58,16 @@ loop-less c = search needs
 
 loop-again : tie.Need-loop-again Inv-loop μ-loop
 loop-again c =
-    let p = c .before .before .before .before .args .t1 in
+    let x = c .before .before .before .before in
     let l = c .before .before .before .loop in
     let h = c .before .before .loop-test .taken in
-    bounds-more p (l .inv) h (told (getD (p .ub) (l .r) (pos 0)) (c .ub .given)) (turned (low-within p (c .before .before .before .before .pre) (l .r) h) tt)
+    bounds-more (x .args .m) (x .args .t2) (x .args .t3) (l .inv) h (told (getD (x .args .t3) (l .r) (pos 0)) (c .ub .given)) (turned (x .pre .low (l .r) h) tt)
 
 array-set-from-x-3 : tie.Need-array-set-from-x-3 Inv-loop μ-loop
 array-set-from-x-3 c = search needs
 
 returns : tie.Need-returns Inv-loop μ-loop
-returns c = bounds-end (c .before .before .args .t1) (c .before .loop .inv) (c .loop-test .left) (toZ-ofZ (c .before .before .fits .ceiling))
+returns c = (let a = c .before .before .args in bounds-end (a .m) (a .t2) (a .t3)) (c .before .loop .inv) (c .loop-test .left) (toZ-ofZ (c .before .before .fits .ceiling))
 
 pub limit-of-spec : {M : Type 1} → statement M
 limit-of-spec =
@@ -77,9 +77,9 @@ limit-of-spec =
     μ-loop
     loop-holds
     mul-lb
-    element-copy-out-lb
+    array-copy-out-lb
     mul-ub
-    element-copy-out-ub
+    array-copy-out-ub
     mul-x
     array-set-from-x
     sub-x

@@ -21,6 +21,7 @@ use Rattle.rows.proofs.Laid.{part-long}
 use Rattle.rows.proofs.Lanes.{wide}
 use Rattle.rows.proofs.UpLayer.{fell-now, fell-before}
 use Rattle.numbers.specs.Whole.{Ready}
+use Rattle.numbers.proofs.Limit.{limit-said, bounding}
 use Rattle.numbers.proofs.Passes.{Setting, setting, few-rules, few-slots, few-size, ready-one, slot-asks, row-said, Up, up-at, one-less, slot-right, half-count, last-room, last-right, last-half, up-start, up-here, up-byte-place, up-place, up-right, up-low, up-half, up-more, up-end}
 use borrow.Author.Needs.{needs}
 use Rattle.numbers.proofs.ups.Statement.{statement}
@@ -47,25 +48,25 @@ mul-size-2 : tie.Need-mul-size-2 Inv-loop μ-loop
 mul-size-2 c = omega (arith, few-size (c .before .pre .0))
 
 limit-of-requires : tie.Need-limit-of-requires Inv-loop μ-loop
-limit-of-requires c κs = ready-one (c .before .pre .0)
+limit-of-requires c κs = let x = c .before .before .before in bounding (x .args .t1) (x .pre .0 .right)
 
 one-node-requires : tie.Need-one-node-requires Inv-loop μ-loop
 one-node-requires c κs = tt
 
 slice-aggregate-put-ups : tie.Need-slice-aggregate-put-ups Inv-loop μ-loop
-slice-aggregate-put-ups c = sym (last-right (setting (c .before .before .before .before .pre .0) (c .before .before .before .before .pre .2) (search long)) (c .before .one-node .ensures) .long)
+slice-aggregate-put-ups c = sym (last-right (setting (c .before .before .before .before .before .before .pre .0) (c .before .before .before .before .before .before .pre .2) (search long)) (c .before .one-node .ensures) .long)
 
 mul-put-ups : tie.Need-mul-put-ups Inv-loop μ-loop
-mul-put-ups c = omega (arith, last-room (setting (c .before .before .before .before .pre .0) (c .before .before .before .before .pre .2) (search long)) (c .before .before .before .before .pre .3))
+mul-put-ups c = omega (arith, last-room (setting (c .before .before .before .before .before .before .pre .0) (c .before .before .before .before .before .before .pre .2) (search long)) (c .before .before .before .before .before .before .pre .3))
 
 mul-put-ups-2 : tie.Need-mul-put-ups-2 Inv-loop μ-loop
-mul-put-ups-2 c = omega (arith, last-room (setting (c .before .before .before .before .pre .0) (c .before .before .before .before .pre .2) (search long)) (c .before .before .before .before .pre .3))
+mul-put-ups-2 c = omega (arith, last-room (setting (c .before .before .before .before .before .before .pre .0) (c .before .before .before .before .before .before .pre .2) (search long)) (c .before .before .before .before .before .before .pre .3))
 
 add-put-ups : tie.Need-add-put-ups Inv-loop μ-loop
-add-put-ups c = omega (arith, last-room (setting (c .before .before .before .before .pre .0) (c .before .before .before .before .pre .2) (search long)) (c .before .before .before .before .pre .3))
+add-put-ups c = omega (arith, last-room (setting (c .before .before .before .before .before .before .pre .0) (c .before .before .before .before .before .before .pre .2) (search long)) (c .before .before .before .before .before .before .pre .3))
 
 mul-put-ups-3 : tie.Need-mul-put-ups-3 Inv-loop μ-loop
-mul-put-ups-3 c = omega (arith, last-room (setting (c .before .before .before .before .pre .0) (c .before .before .before .before .pre .2) (search long)) (c .before .before .before .before .pre .3))
+mul-put-ups-3 c = omega (arith, last-room (setting (c .before .before .before .before .before .before .pre .0) (c .before .before .before .before .before .before .pre .2) (search long)) (c .before .before .before .before .before .before .pre .3))
 
 sub-put-ups : tie.Need-sub-put-ups Inv-loop μ-loop
 sub-put-ups c = search needs
@@ -74,11 +75,11 @@ part-put-ups-start : tie.Need-part-put-ups-start Inv-loop μ-loop
 part-put-ups-start c = search needs
 
 part-put-ups-end : tie.Need-part-put-ups-end Inv-loop μ-loop
-part-put-ups-end c = omega (arith, last-room (setting (c .before .before .before .before .pre .0) (c .before .before .before .before .pre .2) (search long)) (c .before .before .before .before .pre .3))
+part-put-ups-end c = omega (arith, last-room (setting (c .before .before .before .before .before .before .pre .0) (c .before .before .before .before .before .before .pre .2) (search long)) (c .before .before .before .before .before .before .pre .3))
 
 put-ups-requires : tie.Need-put-ups-requires Inv-loop μ-loop
 put-ups-requires c κs =
-    let x = c .before .before .before .before .before in
+    let x = c .before .before .before .before .before .before .before in
     let p = x .args .t1 in
     let size = x .args .w * (4 * p .m + 3) in
     let s = setting (x .pre .0) (x .pre .2) (search long) in
@@ -92,7 +93,7 @@ put-ups-requires c κs =
 
 loop-holds : tie.Need-loop-holds Inv-loop μ-loop
 loop-holds c =
-    let x = c .before .before .before .before .before .before .before in
+    let x = c .before .before .before .before .before .before .before .before .before in
     let p = x .args .t1 in
     let size = x .args .w * (4 * p .m + 3) in
     let s = setting (x .pre .0) (x .pre .2) (search long) in
@@ -131,7 +132,7 @@ slice-aggregate-next-up-2 : tie.Need-slice-aggregate-next-up-2 Inv-loop μ-loop
 slice-aggregate-next-up-2 c = sym (up-right (c .before .before .before .before .before .before .before .before .before .before .before .before .loop .inv .2) (up-at (c .before .before .before .before .before .before .before .before .before .before .before .before .loop .inv .6) (c .before .before .before .before .before .before .before .before .before .before .before .loop-test .taken)) .long)
 
 slice-aggregate-next-up-3 : tie.Need-slice-aggregate-next-up-3 Inv-loop μ-loop
-slice-aggregate-next-up-3 c = sym (ap length (c .before .before .before .before .before .before .before .before .before .before .before .before .before .before .before .before .before .before .before .limit-of .ensures) ∙ length-limit (toZ w32 (ofZ w32 (c .before .before .before .before .before .before .before .before .before .before .before .before .before .before .before .before .before .before .before .before .before .args .ceiling))) (campaignOf (c .before .before .before .before .before .before .before .before .before .before .before .before .before .before .before .before .before .before .before .before .before .args .t1)))
+slice-aggregate-next-up-3 c = sym (ap length ((c .before .before .before .before .before .before .before .before .before .before .before .before .before .before .before .before .before .before .before .limit-of .ensures ∙ limit-said (c .before .before .before .before .before .before .before .before .before .before .before .before .before .before .before .before .before .before .before .before .before .before .before .args .t1) (toZ w32 (ofZ w32 (c .before .before .before .before .before .before .before .before .before .before .before .before .before .before .before .before .before .before .before .before .before .before .before .args .ceiling))))) ∙ length-limit (toZ w32 (ofZ w32 (c .before .before .before .before .before .before .before .before .before .before .before .before .before .before .before .before .before .before .before .before .before .before .before .args .ceiling))) (campaignOf (c .before .before .before .before .before .before .before .before .before .before .before .before .before .before .before .before .before .before .before .before .before .before .before .args .t1)))
 
 mul-next-up : tie.Need-mul-next-up Inv-loop μ-loop
 mul-next-up c = omega (arith, up-byte-place (c .before .before .before .before .before .before .before .before .before .before .before .before .before .loop .inv .2) (up-at (c .before .before .before .before .before .before .before .before .before .before .before .before .before .loop .inv .6) (c .before .before .before .before .before .before .before .before .before .before .before .before .loop-test .taken)))
@@ -182,15 +183,15 @@ next-up-requires : tie.Need-next-up-requires Inv-loop μ-loop
 next-up-requires c κs =
     let l = c .before .before .before .before .before .before .before .before .before .before .before .before .before .before .before .before .before .loop in
     let u = up-at (l .inv .6) (c .before .before .before .before .before .before .before .before .before .before .before .before .before .before .before .before .loop-test .taken) in
-    let p = c .before .before .before .before .before .before .before .before .before .before .before .before .before .before .before .before .before .before .before .before .before .before .before .before .before .args .t1 in
-    let c0 = toZ w32 (ofZ w32 (c .before .before .before .before .before .before .before .before .before .before .before .before .before .before .before .before .before .before .before .before .before .before .before .before .before .args .ceiling)) in
-    let bytes = c .before .before .before .before .before .before .before .before .before .before .before .before .before .before .before .before .before .before .before .before .before .before .before .before .before .args .w * 8 in (
+    let p = c .before .before .before .before .before .before .before .before .before .before .before .before .before .before .before .before .before .before .before .before .before .before .before .before .before .before .before .args .t1 in
+    let c0 = toZ w32 (ofZ w32 (c .before .before .before .before .before .before .before .before .before .before .before .before .before .before .before .before .before .before .before .before .before .before .before .before .before .before .before .args .ceiling)) in
+    let bytes = c .before .before .before .before .before .before .before .before .before .before .before .before .before .before .before .before .before .before .before .before .before .before .before .before .before .before .before .args .w * 8 in (
       few-rules (l .inv .0),
       l .inv .0 .few,
       slot-right (l .inv .2) (l .left - 1) (row-said (l .inv .0) (l .left - 1) (up-here (l .inv .2) u) (c .before .before .before .before .before .before .before .before .slot-row .ensures)),
       up-right (l .inv .2) u,
-      ap length (c .before .before .before .before .before .before .before .before .before .before .before .before .before .before .before .before .before .before .before .before .before .before .before .limit-of .ensures) ∙ length-limit c0 (campaignOf p),
-      rw (c .before .before .before .before .before .before .before .before .before .before .before .before .before .before .before .before .before .before .before .before .before .before .before .limit-of .ensures) (limit-within (campaignOf p) (l .inv .2 .small) (l .inv .1)),
+      ap length ((c .before .before .before .before .before .before .before .before .before .before .before .before .before .before .before .before .before .before .before .before .before .before .before .limit-of .ensures ∙ limit-said (c .before .before .before .before .before .before .before .before .before .before .before .before .before .before .before .before .before .before .before .before .before .before .before .before .before .before .before .args .t1) (toZ w32 (ofZ w32 (c .before .before .before .before .before .before .before .before .before .before .before .before .before .before .before .before .before .before .before .before .before .before .before .before .before .before .before .args .ceiling))))) ∙ length-limit c0 (campaignOf p),
+      rw ((c .before .before .before .before .before .before .before .before .before .before .before .before .before .before .before .before .before .before .before .before .before .before .before .limit-of .ensures ∙ limit-said (c .before .before .before .before .before .before .before .before .before .before .before .before .before .before .before .before .before .before .before .before .before .before .before .before .before .before .before .args .t1) (toZ w32 (ofZ w32 (c .before .before .before .before .before .before .before .before .before .before .before .before .before .before .before .before .before .before .before .before .before .before .before .before .before .before .before .args .ceiling))))) (limit-within (campaignOf p) (l .inv .2 .small) (l .inv .1)),
       part-long ((l .left - 1) * bytes) bytes (l .arcs) (up-byte-place (l .inv .2) u .0),
       up-low (l .inv .2) u,
       up-half (l .inv .2) u,
@@ -206,7 +207,7 @@ loop-less c = one-less (c .before .before .before .before .before .before .befor
 
 loop-again : tie.Need-loop-again Inv-loop μ-loop
 loop-again c =
-    let x = c .before .before .before .before .before .before .before .before .before .before .before .before .before .before .before .before .before .before .before .before .before .before .before .before .before .before .before .before .before .before .before .before .before in
+    let x = c .before .before .before .before .before .before .before .before .before .before .before .before .before .before .before .before .before .before .before .before .before .before .before .before .before .before .before .before .before .before .before .before .before .before .before in
     let l = c .before .before .before .before .before .before .before .before .before .before .before .before .before .before .before .before .before .before .before .before .before .before .before .before .before .loop in
     let u = up-at (l .inv .6) (c .before .before .before .before .before .before .before .before .before .before .before .before .before .before .before .before .before .before .before .before .before .before .before .before .loop-test .taken) in
     let h = up-here (l .inv .2) u in
@@ -221,7 +222,7 @@ loop-again c =
       r .ensures .1 .1 .1 .1 .0,
       r .ensures .1 .1 .1 .1 .1,
       slot-right (l .inv .2) (l .left - 1) said .long,
-      up-more (l .inv .2) u (x .args .free) (toZ w32 (ofZ w32 (x .args .ceiling))) refl said (c .before .before .before .before .before .before .before .before .before .before .before .before .before .before .before .before .before .before .before .before .before .before .before .before .before .before .before .before .before .before .before .limit-of .ensures) (r .ensures .0) (r .ensures .1 .0)
+      up-more (l .inv .2) u (x .args .free) (toZ w32 (ofZ w32 (x .args .ceiling))) refl said ((c .before .before .before .before .before .before .before .before .before .before .before .before .before .before .before .before .before .before .before .before .before .before .before .before .before .before .before .before .before .before .before .limit-of .ensures ∙ limit-said (c .before .before .before .before .before .before .before .before .before .before .before .before .before .before .before .before .before .before .before .before .before .before .before .before .before .before .before .before .before .before .before .before .before .before .before .args .t1) (toZ w32 (ofZ w32 (c .before .before .before .before .before .before .before .before .before .before .before .before .before .before .before .before .before .before .before .before .before .before .before .before .before .before .before .before .before .before .before .before .before .before .before .args .ceiling))))) (r .ensures .0) (r .ensures .1 .0)
           (r .kept .1 .1 .1 .1 .1 .1 .0 ∙ part-long ((l .left - 1) * bytes) bytes (l .arcs) (up-byte-place (l .inv .2) u .0)) (r .ensures .1 .1 .0)
           (r .kept .1 .1 .1 .1 .1 .1 .1 .0 ∙ part-long ((l .left - 1) * size) size (l .cells) (up-place (l .inv .2) u .0)) (r .ensures .1 .1 .1 .0)
           (⊎-elim (λ t. fell-now (l .fell) (r .result) (t .0 .taken) (t .1)) (λ t. fell-before (l .fell) (r .result) (t .0 .left) (t .1)) (c .if1 .came)),
@@ -231,11 +232,11 @@ same-length : tie.Need-same-length Inv-loop μ-loop
 same-length c = c .before .loop .inv .6 .bytes .long ∙ sym (c .before .loop .inv .2 .long)
 
 same-length-2 : tie.Need-same-length-2 Inv-loop μ-loop
-same-length-2 c = c .before .loop .inv .6 .laid .long ∙ sym (half-count (c .before .loop .inv .2) (c .before .before .before .before .before .before .before .before .before .pre .3))
+same-length-2 c = c .before .loop .inv .6 .laid .long ∙ sym (half-count (c .before .loop .inv .2) (c .before .before .before .before .before .before .before .before .before .before .before .pre .3))
 
 returns : tie.Need-returns Inv-loop μ-loop
 returns c =
-    let x = c .before .before .before .before .before .before .before .before .before in
+    let x = c .before .before .before .before .before .before .before .before .before .before .before in
     let l = c .before .loop in
     let p = x .args .t1 in
     let w = x .args .w in
