@@ -40,7 +40,7 @@ pub fn refusal(number: u32) -> Bound
 }
 
 // The width is 1 to 16.
-fn width_is_right(w: u32) -> bool
+pub fn width_is_right(w: u32) -> bool
     ensures { λ r. ⌜ r ≡ not (wrongWidth w) ⌝ }
 {
     if w < 1 {

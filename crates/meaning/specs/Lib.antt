@@ -9,3 +9,4 @@ pub mod Page
 pub mod File
 pub mod Running
 pub mod Calls
+pub mod Interface
