@@ -198,7 +198,7 @@ fn print_cuts(file: &[u8]) {
 }
 
 fn print_judge(file: &[u8], plan: &[u8]) {
-    let j = brennigou::judge(file, plan);
+    let j = files::judge(file, plan);
     print_number(j.number as u64);
     if is_refusal(j) {
         io::write_all(STDOUT_FILENO, b" unchanged");
@@ -239,7 +239,7 @@ fn are_same(a: &[u8], b: &[u8]) -> bool {
 
 // 0 the empty start, 1 the standing plan, 2 the new one, told by length and bytes. Where the plans are equal bytes it says 1.
 fn print_better<'a>(file: &[u8], standing: &'a [u8], new: &'a [u8]) {
-    let got = brennigou::better(file, standing, new);
+    let got = files::better(file, standing, new);
     if got.len() == 0 {
         print_number(0);
     } else if are_same(got, standing) {

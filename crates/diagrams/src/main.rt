@@ -200,7 +200,7 @@ fn print_relaxed(
     cells: &mut [i32],
     plan: &[u8],
 ) {
-    let b = brennigou::relaxed(file, width, rounds, ceiling, arcs, cells);
+    let b = files::relaxed(file, width, rounds, ceiling, arcs, cells);
     if b.number != 0 {
         print_refusal(b.number, is_alone(b), arcs, cells, plan);
         return;
@@ -210,7 +210,7 @@ fn print_relaxed(
 }
 
 fn print_restricted(file: &[u8], width: u32, arcs: &mut [u8], cells: &mut [i32], plan: &mut [u8]) {
-    let b = brennigou::restricted(file, width, arcs, cells, plan);
+    let b = files::restricted(file, width, arcs, cells, plan);
     if b.number != 0 {
         print_refusal(b.number, is_alone(b), arcs, cells, plan);
         return;
@@ -231,7 +231,7 @@ fn print_page(
     cells: &mut [i32],
     page: &mut [u8],
 ) {
-    let c = brennigou::page(file, width, rounds, ceiling, start, arcs, cells, page);
+    let c = files::page(file, width, rounds, ceiling, start, arcs, cells, page);
     if c.number != 0 {
         print_refusal(c.number, is_none(c), arcs, cells, page);
         return;

@@ -1,6 +1,6 @@
 -- `print_walk` is safe: what was read has no fault.
 use borrow.Author.Needs.{needs}
-use Rattle.brennigou.proofs.Opened.{opened-yes}
+use Rattle.files.proofs.Opened.{opened-yes}
 use Rattle.diagrams.proofs.print_walk.Statement.{statement}
 use Rattle.diagrams.proofs.print_walk.Tie as tie
 

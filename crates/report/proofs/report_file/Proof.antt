@@ -1,6 +1,6 @@
 -- `report_file` is safe: a problem that was read has no fault.
 use borrow.Author.Needs.{needs}
-use Rattle.brennigou.proofs.Opened.{opened-yes}
+use Rattle.files.proofs.Opened.{opened-yes}
 use Rattle.report.proofs.report_file.Statement.{statement}
 use Rattle.report.proofs.report_file.Tie as tie
 

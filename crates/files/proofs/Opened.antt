@@ -12,6 +12,8 @@ use Rattle.meaning.specs.Calls.{Lent, emptyStart, read, judged, judge, betterOf
 use Rattle.meaning.proofs.Rows.{refused-range}
 use Rattle.problem.specs.Held.{said, held, campaignOf, faultIn}
 use Rattle.problem.proofs.Again.{accepted-held}
+use Rattle.judge.specs.declared.Which.{Which}
+use Rattle.judge.specs.Answers.{choiceOf}
 use Rattle.rtp.specs.declared.Reading.{Reading}
 use Rattle.rtp.specs.Reading.{readAs}
 
@@ -19,6 +21,7 @@ pub record Opened (s : List ℕ) (r : Reading) : Type 0 where
   pub problem : paper.Problem
   pub rest : List ℕ
   pub is : readOf s ≡ got problem rest
+  pub by-value : r .problem ≡ held problem
   pub says : said (r .problem) ≡ problem
   pub faultless : faultIn version1 (r .problem) ≡ 0
 
@@ -40,7 +43,7 @@ module _ (s : List ℕ) (r : Reading) (e : r ≡ readAs (read s)) where
       go (got q t) h =
           let by : r .problem ≡ held q = ap (λ (x : Reading). x .problem) e ∙ rw h refl in
           let again = accepted-held s q t h in
-          record { problem = q; rest = t; is = h; says = rw by (again .0); faultless = rw by (again .1) }
+          record { problem = q; rest = t; is = h; by-value = by; says = rw by (again .0); faultless = rw by (again .1) }
 
 -- ---- a refused file: "no other answer"
 module _ (s : List ℕ) {k : ℕ} (e : readOf s ≡ refused k) where
@@ -85,3 +88,7 @@ module _ (s : List ℕ) (r : Reading) (o : Opened s r) where
   page-opened w n c a l =
       let read : pageCall s w n c a l ≡ pageOn (paper.campaign (o .problem)) w n c a l = rw (o .is) refl in
       read ∙ ap (λ (q : paper.Problem). pageOn (paper.campaign q) w n c a l) (sym (o .says))
+
+-- the case that was chosen is the definition's
+pub better-read : (s : List ℕ) (r : Reading) → r ≡ readAs (read s) → r .number ≡ 0 → (a b : List ℕ) (v : Which) → choiceOf v ≡ betterOf (campaignOf (r .problem)) a b → better s a b ≡ choiceOf v
+better-read s r e z a b v h = better-opened s r (opened-yes s r e z) a b ∙ sym h

@@ -2,10 +2,10 @@
 use mathlib.Core.Path.{sym, ap, _∙_}
 use Rattle.meaning.specs.Calls.{Bound, Done}
 use Rattle.diagram.specs.Answers.{boundedAs, lentOf}
-use Rattle.brennigou.proofs.Opened.{opened-no, opened-yes, restricted-refused, restricted-opened}
+use Rattle.files.proofs.Opened.{opened-no, opened-yes, restricted-refused, restricted-opened}
 use borrow.Author.Needs.{needs}
-use Rattle.brennigou.proofs.restricted.Statement.{statement}
-use Rattle.brennigou.proofs.restricted.Tie as tie
+use Rattle.files.proofs.restricted.Statement.{statement}
+use Rattle.files.proofs.restricted.Tie as tie
 
 read-requires : tie.Need-read-requires
 read-requires c κs = search needs

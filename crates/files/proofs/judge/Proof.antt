@@ -2,9 +2,9 @@
 use borrow.Author.Needs.{needs}
 use mathlib.Core.Path.{sym, ap, _∙_}
 use Rattle.judge.specs.Answers.{judgedAs}
-use Rattle.brennigou.proofs.Opened.{opened-no, opened-yes, judge-refused, judge-opened}
-use Rattle.brennigou.proofs.judge.Statement.{statement}
-use Rattle.brennigou.proofs.judge.Tie as tie
+use Rattle.files.proofs.Opened.{opened-no, opened-yes, judge-refused, judge-opened}
+use Rattle.files.proofs.judge.Statement.{statement}
+use Rattle.files.proofs.judge.Tie as tie
 
 read-requires : tie.Need-read-requires
 read-requires c κs = search needs

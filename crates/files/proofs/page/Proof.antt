@@ -6,9 +6,9 @@ use Rattle.meaning.specs.Calls.{Count, Done, pageOn}
 use Rattle.problem.specs.Held.{campaignOf}
 use Rattle.diagram.specs.Answers.{lentOf}
 use Rattle.pages.specs.Answers.{countedAs}
-use Rattle.brennigou.proofs.Opened.{opened-no, opened-yes, page-refused, page-opened}
-use Rattle.brennigou.proofs.page.Statement.{statement}
-use Rattle.brennigou.proofs.page.Tie as tie
+use Rattle.files.proofs.Opened.{opened-no, opened-yes, page-refused, page-opened}
+use Rattle.files.proofs.page.Statement.{statement}
+use Rattle.files.proofs.page.Tie as tie
 
 read-requires : tie.Need-read-requires
 read-requires c κs = search needs

@@ -6,9 +6,9 @@ use mir.Facts.{toZ-ofZ}
 use Rattle.meaning.specs.Calls.{Bound, Done, relaxedOf}
 use Rattle.problem.specs.Held.{campaignOf}
 use Rattle.diagram.specs.Answers.{boundedAs, lentOf}
-use Rattle.brennigou.proofs.Opened.{opened-no, opened-yes, relaxed-refused, relaxed-opened}
-use Rattle.brennigou.proofs.relaxed.Statement.{statement}
-use Rattle.brennigou.proofs.relaxed.Tie as tie
+use Rattle.files.proofs.Opened.{opened-no, opened-yes, relaxed-refused, relaxed-opened}
+use Rattle.files.proofs.relaxed.Statement.{statement}
+use Rattle.files.proofs.relaxed.Tie as tie
 
 read-requires : tie.Need-read-requires
 read-requires c κs = search needs
