@@ -38,7 +38,7 @@ use Rattle.numbers.specs.Whole.{Ready, halfCells}
 use Rattle.numbers.proofs.Held.{held-arcs, held-formed}
 use Rattle.numbers.proofs.Passes.{Setting, Down, setting, slot-asks, row-said, slot-right, byte-place, need-is, last-place, origin, part as partOf, parted-flat, down-start, down-right, down-place, down-more, down-last, down-end, few-rules, few-slots}
 use Rattle.classes.specs.Classes.{Held, Totalled, arrivalAt}
-use Rattle.reach.specs.Spans.{Reached}
+use Rattle.reach.specs.Spans.{Reached, Says}
 use Rattle.layer.specs.Places.{builderOf}
 use Rattle.building.specs.Layers.{Made}
 use Rattle.building.proofs.Bounds.{boundsIn, bounds-inside}
@@ -71,6 +71,10 @@ final {p} {w} relax r e =
 
 pub ready-of : {p : Problem} {w : ℕ} → faultIn version1 p ≡ 0 → 1 ≤ w → w ≤ 16 → Ready p w
 ready-of r h k = record { right = r; some = h; few = k }
+
+-- a problem has its own arrays
+pub says : (p : Problem) → faultIn version1 p ≡ 0 → Says (p .n) (p .m) (p .sets) (p .kinds) (p .values) (p .slots) (p .coefs) p
+says p r = record { right = r; n-is = refl; m-is = refl; sets-are = refl; kinds-are = refl; values-are = refl; slots-are = refl; coefs-are = refl }
 
 pub zeros-long : {arcs : List ℕ} (n : ℕ) → arcs ≡ replicate n 0 → length arcs ≡ n
 zeros-long n e = ap length e ∙ length-replicate n 0

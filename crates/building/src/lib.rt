@@ -115,11 +115,21 @@ pub fn build(p: Problem, relax: bool, w: usize, arcs: &mut [u8], cells: &mut [i3
     let size = w * (4 * m + 3);
     let bounds = bounds_of(m, p.lb, p.ub);
     let mut table = [0i32; 425];
-    reach::reaches(p, &mut table);
+    let mut row = [0i32; 136];
+    reach::reaches(
+        n,
+        m,
+        &p.sets,
+        &p.kinds,
+        &p.values,
+        &p.slots,
+        &p.coefs,
+        &mut row,
+        &mut table,
+    );
     zero_bytes(arcs);
     let mut here = numbers::one_node(m);
     let mut spare = [FAR; 272];
-    let mut row = [0i32; 136];
     let mut nodes: usize = 1;
     let mut exact = true;
     let mut i: usize = 0;

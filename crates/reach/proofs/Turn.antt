@@ -7,7 +7,7 @@ use native.Mathlib.Numerals.{add-one}
 use lib.ListN.{length, getD, take, drop, replicate, length-take, length-drop}
 use lib.Seq.{paste, drop-cons, getD-take}
 use lib.IntN.{ℤ, pos}
-use Rattle.laws.specs.Z.{Within, back, back-is}
+use Rattle.laws.specs.Z.{Within}
 use Rattle.laws.proofs.Each.{Each}
 use Rattle.meaning.specs.Plan.{slots, stepsOf}
 use Rattle.meaning.specs.Problem.{version1}
@@ -17,7 +17,7 @@ use Rattle.problem.proofs.Faultless.{Right}
 use Rattle.lent.specs.Lanes.{lanesAt, sums}
 use Rattle.lent.specs.Vec.{slotVec}
 use Rattle.slot.specs.Rows.{slotLanes}
-use Rattle.slot.proofs.Said.{said-weight, said-row, said-small}
+use Rattle.slot.proofs.Said.{said-row, said-small}
 use Rattle.reach.specs.Spans.{leastOver}
 use Rattle.reach.proofs.Table.{reachVec, Behind, behind-start, behind-more, reach-step, span-small, reach-small}
 
@@ -39,10 +39,10 @@ module _ (p : Problem) (right : Right version1 p) (sets : length (p .sets) ≡ 2
   next : (i : ℕ) → i < p .n → drop i (campaignOf p .sets) ≡ getD (p .sets) i 0 ∷ drop (suc i) (campaignOf p .sets)
   next i h = drop-cons (take (p .n) (p .sets)) i 0 (omega (arith, slots-are)) ∙ ap (λ s. s ∷ drop (suc i) (take (p .n) (p .sets))) (set-is i h)
 
-  -- the row is the campaign's, its weight read back from its bits
-  pub row-is : (i : ℕ) → i < p .n → (row : List ℤ) → row ≡ slotLanes (p .m) i (back (getD (p .weights) i (pos 0))) (p .kinds) (p .values) (p .slots) (p .coefs)
+  -- the row is the campaign's
+  pub row-is : (i : ℕ) → i < p .n → (row : List ℤ) → row ≡ slotLanes (p .m) i (getD (p .weights) i (pos 0)) (p .kinds) (p .values) (p .slots) (p .coefs)
       → row ≡ slotVec (campaignOf p) i
-  row-is i h row e = e ∙ ap (λ z. slotLanes (p .m) i z (p .kinds) (p .values) (p .slots) (p .coefs)) (back-is (said-weight p right i h) tt) ∙ said-row p right i h
+  row-is i h row e = e ∙ said-row p right i h
 
   -- the slot's lanes are small enough to be summed
   pub here-small : (i s : ℕ) (row here : List ℤ) → row ≡ slotVec (campaignOf p) i → here ≡ leastOver row (stepsOf 8 s) → Each (Within 10000000) here

@@ -14,16 +14,16 @@ use Rattle.laws.specs.Lists.{padded}
 use Rattle.state.proofs.Joined.{noPair}
 use Rattle.numbers.proofs.Limit.{bounding}
 use Rattle.building.proofs.Bounds.{bounds-said}
-use Rattle.building.proofs.Problems.{Going, ready-of, going-start, going-here, going-cells, going-downs, going-slot, going-slot-row, going-taken, going-limit, row-long, going-room, going-layer, places-in, going-room-next, going-last, going-downs-last, going-long, going-next, going-more, going-same, going-end, zeros-long}
+use Rattle.building.proofs.Problems.{Going, ready-of, says, going-start, going-here, going-cells, going-downs, going-slot, going-slot-row, going-taken, going-limit, row-long, going-room, going-layer, places-in, going-room-next, going-last, going-downs-last, going-long, going-next, going-more, going-same, going-end, zeros-long}
 use Rattle.building.proofs.build.Statement.{statement}
 use Rattle.building.proofs.build.Tie as tie
 
 abbrev Inv-loop : tie.InvT-loop
-Inv-loop relax w arcs₀ cells₀ p n m bytes size bounds table here₀ spare₀ row₀ nodes₀ exact₀ i₀ arcs cells here spare row nodes exact i =
+Inv-loop relax w arcs₀ cells₀ p n m bytes size bounds table row₀ here₀ spare₀ nodes₀ exact₀ i₀ arcs cells row here spare nodes exact i =
     Going p relax w (length arcs₀) (pairs bounds) table arcs cells here spare row nodes exact i
 
 abbrev μ-loop : tie.MeasureT-loop
-μ-loop relax w arcs₀ cells₀ p n m bytes size bounds table here₀ spare₀ row₀ nodes₀ exact₀ i₀ arcs cells here spare row nodes exact i = p .n - i
+μ-loop relax w arcs₀ cells₀ p n m bytes size bounds table row₀ here₀ spare₀ nodes₀ exact₀ i₀ arcs cells row here spare nodes exact i = p .n - i
 
 mul-bytes : tie.Need-mul-bytes Inv-loop μ-loop
 mul-bytes c = omega (arith, c .before .pre .2)
@@ -43,8 +43,14 @@ bounds-of-requires c κs = let x = c .before .before .before in bounding (x .arg
 slice-aggregate-reaches : tie.Need-slice-aggregate-reaches Inv-loop μ-loop
 slice-aggregate-reaches c = refl
 
+slice-aggregate-reaches-2 : tie.Need-slice-aggregate-reaches-2 Inv-loop μ-loop
+slice-aggregate-reaches-2 c = refl
+
 reaches-requires : tie.Need-reaches-requires Inv-loop μ-loop
-reaches-requires c κs = (c .before .before .before .before .before .pre .0, refl)
+reaches-requires c κs =
+    let x = c .before .before .before .before .before .before .before .before .before .before .before .before in
+    let sets : length (x .args .t1 .sets) ≡ 24 = search long in
+    ((x .args .t1, says (x .args .t1) (x .pre .0)), sets, refl, refl)
 
 zero-bytes-requires : tie.Need-zero-bytes-requires Inv-loop μ-loop
 zero-bytes-requires c κs = tt
@@ -54,11 +60,14 @@ one-node-requires c κs = tt
 
 loop-holds : tie.Need-loop-holds Inv-loop μ-loop
 loop-holds c =
-    let x = c .before .before .before .before .before .before .before .before .before .before .before .before in
+    let x = c .before .before .before .before .before .before .before .before .before .before .before .before .before .before .before .before .before .before .before .before in
     let p = x .args .t1 in
     let sets : length (p .sets) ≡ 24 = search long in
-    going-start p (x .args .relax) (x .args .w) (pairs (c .before .before .before .before .before .before .before .before .bounds-of .result)) (c .before .before .before .before .before .before .reaches .last .1 .0) (now (x .args .arcs)) (c .before .before .before .zero-bytes .last .0) (now (x .args .cells)) (c .one-node .result) (replicate 272 (pos 4000000)) (replicate 136 (pos 0))
-    (ready-of (x .pre .0) (x .pre .1) (x .pre .2)) sets (x .pre .3) (c .before .before .before .before .before .before .before .before .bounds-of .ensures ∙ ap (padded 8 noPair) (bounds-said p)) (c .before .before .before .before .before .before .reaches .ensures) (c .before .before .before .zero-bytes .ensures) (x .pre .4) (c .one-node .ensures) spare-start refl
+    let bounds = c .before .before .before .before .before .before .before .before .before .before .before .before .before .before .before .before .bounds-of in
+    let reached = c .before .before .before .before .before .before .before .reaches in
+    let zeros = c .before .before .before .zero-bytes in
+    going-start p (x .args .relax) (x .args .w) (pairs (bounds .result)) (reached .last .1 .1 .1 .1 .1 .1 .1 .1 .0) (now (x .args .arcs)) (zeros .last .0) (now (x .args .cells)) (c .one-node .result) (replicate 272 (pos 4000000)) (reached .last .1 .1 .1 .1 .1 .1 .1 .0)
+    (ready-of (x .pre .0) (x .pre .1) (x .pre .2)) sets (x .pre .3) (bounds .ensures ∙ ap (padded 8 noPair) (bounds-said p)) (reached .ensures .0 p (says p (x .pre .0))) (zeros .ensures) (x .pre .4) (c .one-node .ensures) spare-start (reached .ensures .1)
 
 slice-aggregate-put-downs : tie.Need-slice-aggregate-put-downs Inv-loop μ-loop
 slice-aggregate-put-downs c = sym (going-here (c .before .before .loop .inv) .long)
@@ -158,7 +167,7 @@ part-build-layer-end c = omega (arith, going-room (c .before .before .before .be
 build-layer-requires : tie.Need-build-layer-requires Inv-loop μ-loop
 build-layer-requires c κs =
     let a = going-layer (c .before .before .before .before .before .before .before .before .before .before .before .before .before .before .before .before .before .before .before .before .before .before .before .loop .inv) (c .before .before .before .before .before .before .before .before .before .before .before .before .before .before .before .before .before .before .before .before .before .before .loop-test .taken) (c .before .before .before .before .before .before .before .before .before .slot-row .ensures) in
-    let p = places-in (c .before .before .before .before .before .before .before .before .before .before .before .before .before .before .before .before .before .before .before .before .before .before .before .loop .inv) (eqb (c .before .before .before .before .before .before .before .before .before .before .before .before .before .before .before .before .before .before .before .before .before .before .before .loop .i + 1) (c .before .before .before .before .before .before .before .before .before .before .before .before .before .before .before .before .before .before .before .before .before .before .before .before .before .before .before .before .before .before .before .before .before .before .before .before .args .t1 .n)) (c .before .before .before .places .ensures) in
+    let p = places-in (c .before .before .before .before .before .before .before .before .before .before .before .before .before .before .before .before .before .before .before .before .before .before .before .loop .inv) (eqb (c .before .before .before .before .before .before .before .before .before .before .before .before .before .before .before .before .before .before .before .before .before .before .before .loop .i + 1) (c .before .before .before .before .before .before .before .before .before .before .before .before .before .before .before .before .before .before .before .before .before .before .before .before .before .before .before .before .before .before .before .before .before .before .before .before .before .before .before .before .before .before .before .before .args .t1 .n)) (c .before .before .before .places .ensures) in
     (a .0, a .1, p .0, p .1, a .2)
 
 slice-aggregate-next-down : tie.Need-slice-aggregate-next-down Inv-loop μ-loop
@@ -183,13 +192,13 @@ part-next-down-start : tie.Need-part-next-down-start Inv-loop μ-loop
 part-next-down-start c = search needs
 
 part-next-down-end : tie.Need-part-next-down-end Inv-loop μ-loop
-part-next-down-end c = going-room-next (c .before .before .before .before .before .before .before .before .before .before .before .before .before .before .before .before .before .before .before .before .before .before .before .before .before .before .before .before .before .loop .inv) (c .before .before .before .before .before .before .before .before .before .before .before .before .before .before .before .before .before .before .before .before .before .before .before .before .before .before .before .before .loop-test .taken) (c .before .before .before .before .before .before .before .before .before .before .before .before .before .before .before .slot-row .ensures) (c .before .before .before .before .before .before .before .before .before .before .before .less .ensures ∙ ap (lessened (pairs (c .before .before .before .before .before .before .before .before .before .before .before .before .before .before .before .before .before .before .before .before .before .before .before .before .before .before .before .before .before .before .before .before .before .before .before .before .before .before .bounds-of .result))) (c .before .before .before .before .before .before .before .before .before .before .before .before .taken .ensures)) (c .before .before .before .before .before .before .before .before .before .before .shares .ensures) (c .before .before .before .before .before .before .before .before .before .places .ensures) (c .before .before .before .before .before .build-layer .ensures)
+part-next-down-end c = going-room-next (c .before .before .before .before .before .before .before .before .before .before .before .before .before .before .before .before .before .before .before .before .before .before .before .before .before .before .before .before .before .loop .inv) (c .before .before .before .before .before .before .before .before .before .before .before .before .before .before .before .before .before .before .before .before .before .before .before .before .before .before .before .before .loop-test .taken) (c .before .before .before .before .before .before .before .before .before .before .before .before .before .before .before .slot-row .ensures) (c .before .before .before .before .before .before .before .before .before .before .before .less .ensures ∙ ap (lessened (pairs (c .before .before .before .before .before .before .before .before .before .before .before .before .before .before .before .before .before .before .before .before .before .before .before .before .before .before .before .before .before .before .before .before .before .before .before .before .before .before .before .before .before .before .before .before .before .before .bounds-of .result))) (c .before .before .before .before .before .before .before .before .before .before .before .before .taken .ensures)) (c .before .before .before .before .before .before .before .before .before .before .shares .ensures) (c .before .before .before .before .before .before .before .before .before .places .ensures) (c .before .before .before .before .before .build-layer .ensures)
 
 slice-aggregate-next-down-3 : tie.Need-slice-aggregate-next-down-3 Inv-loop μ-loop
 slice-aggregate-next-down-3 c = sym (c .before .before .before .before .before .before .before .before .before .before .before .before .before .before .before .before .before .before .before .before .before .before .before .before .before .before .before .before .before .before .before .loop .inv .room .long)
 
 next-down-requires : tie.Need-next-down-requires Inv-loop μ-loop
-next-down-requires c κs = going-next (c .before .before .before .before .before .before .before .before .before .before .before .before .before .before .before .before .before .before .before .before .before .before .before .before .before .before .before .before .before .before .before .loop .inv) (c .before .before .before .before .before .before .before .before .before .before .before .before .before .before .before .before .before .before .before .before .before .before .before .before .before .before .before .before .before .before .loop-test .taken) (c .before .before .before .before .before .before .before .before .before .before .before .before .before .before .before .before .before .slot-row .ensures) (c .before .before .before .before .before .before .before .before .before .before .before .before .before .less .ensures ∙ ap (lessened (pairs (c .before .before .before .before .before .before .before .before .before .before .before .before .before .before .before .before .before .before .before .before .before .before .before .before .before .before .before .before .before .before .before .before .before .before .before .before .before .before .before .before .bounds-of .result))) (c .before .before .before .before .before .before .before .before .before .before .before .before .before .before .taken .ensures)) (c .before .before .before .before .before .before .before .before .before .before .before .before .shares .ensures) (c .before .before .before .before .before .before .before .before .before .before .before .places .ensures) (c .before .before .before .before .before .before .before .build-layer .ensures)
+next-down-requires c κs = going-next (c .before .before .before .before .before .before .before .before .before .before .before .before .before .before .before .before .before .before .before .before .before .before .before .before .before .before .before .before .before .before .before .loop .inv) (c .before .before .before .before .before .before .before .before .before .before .before .before .before .before .before .before .before .before .before .before .before .before .before .before .before .before .before .before .before .before .loop-test .taken) (c .before .before .before .before .before .before .before .before .before .before .before .before .before .before .before .before .before .slot-row .ensures) (c .before .before .before .before .before .before .before .before .before .before .before .before .before .less .ensures ∙ ap (lessened (pairs (c .before .before .before .before .before .before .before .before .before .before .before .before .before .before .before .before .before .before .before .before .before .before .before .before .before .before .before .before .before .before .before .before .before .before .before .before .before .before .before .before .before .before .before .before .before .before .before .before .bounds-of .result))) (c .before .before .before .before .before .before .before .before .before .before .before .before .before .before .taken .ensures)) (c .before .before .before .before .before .before .before .before .before .before .before .before .shares .ensures) (c .before .before .before .before .before .before .before .before .before .before .before .places .ensures) (c .before .before .before .before .before .before .before .build-layer .ensures)
 
 least-requires : tie.Need-least-requires Inv-loop μ-loop
 least-requires c κs = tt
@@ -205,7 +214,7 @@ loop-less c = omega (arith, c .before .before .before .before .before .before .b
 
 loop-again : tie.Need-loop-again Inv-loop μ-loop
 loop-again c =
-    going-more (c .before .before .before .before .before .before .before .before .before .before .before .before .before .before .before .before .before .before .before .before .before .before .before .before .before .before .before .before .before .before .before .before .before .before .before .before .loop .inv) (c .before .before .before .before .before .before .before .before .before .before .before .before .before .before .before .before .before .before .before .before .before .before .before .before .before .before .before .before .before .before .before .before .before .before .before .loop-test .taken) (c .before .before .before .before .before .before .before .before .before .before .before .before .before .before .before .before .before .before .before .before .before .before .slot-row .ensures) (c .before .before .before .before .before .before .before .before .before .before .before .before .before .before .before .before .before .before .less .ensures ∙ ap (lessened (pairs (c .before .before .before .before .before .before .before .before .before .before .before .before .before .before .before .before .before .before .before .before .before .before .before .before .before .before .before .before .before .before .before .before .before .before .before .before .before .before .before .before .before .before .before .before .before .bounds-of .result))) (c .before .before .before .before .before .before .before .before .before .before .before .before .before .before .before .before .before .before .before .taken .ensures)) (c .before .before .before .before .before .before .before .before .before .before .before .before .before .before .before .before .before .shares .ensures) (c .before .before .before .before .before .before .before .before .before .before .before .before .before .before .before .before .places .ensures) (c .before .before .before .before .before .before .before .before .before .before .before .before .build-layer .ensures) (c .before .least .result) (c .still .result)
+    going-more (c .before .before .before .before .before .before .before .before .before .before .before .before .before .before .before .before .before .before .before .before .before .before .before .before .before .before .before .before .before .before .before .before .before .before .before .before .loop .inv) (c .before .before .before .before .before .before .before .before .before .before .before .before .before .before .before .before .before .before .before .before .before .before .before .before .before .before .before .before .before .before .before .before .before .before .before .loop-test .taken) (c .before .before .before .before .before .before .before .before .before .before .before .before .before .before .before .before .before .before .before .before .before .before .slot-row .ensures) (c .before .before .before .before .before .before .before .before .before .before .before .before .before .before .before .before .before .before .less .ensures ∙ ap (lessened (pairs (c .before .before .before .before .before .before .before .before .before .before .before .before .before .before .before .before .before .before .before .before .before .before .before .before .before .before .before .before .before .before .before .before .before .before .before .before .before .before .before .before .before .before .before .before .before .before .before .before .before .before .before .before .before .bounds-of .result))) (c .before .before .before .before .before .before .before .before .before .before .before .before .before .before .before .before .before .before .before .taken .ensures)) (c .before .before .before .before .before .before .before .before .before .before .before .before .before .before .before .before .before .shares .ensures) (c .before .before .before .before .before .before .before .before .before .before .before .before .before .before .before .before .places .ensures) (c .before .before .before .before .before .before .before .before .before .before .before .before .build-layer .ensures) (c .before .least .result) (c .still .result)
     (c .before .before .before .before .before .before .before .before .before .before .before .before .before .before .before .before .before .before .before .before .before .before .before .before .before .before .before .before .before .before .before .before .put-downs .ensures) refl (c .before .before .before .before .next-down .ensures .0) (c .before .before .before .before .next-down .ensures .1) (c .before .least .ensures) (c .still .ensures)
 
 slice-aggregate-put-downs-2 : tie.Need-slice-aggregate-put-downs-2 Inv-loop μ-loop
@@ -236,14 +245,14 @@ put-downs-requires-2 : tie.Need-put-downs-requires-2 Inv-loop μ-loop
 put-downs-requires-2 c κs = going-downs-last (c .before .before .before .loop .inv) (c .before .before .loop-test .left)
 
 same-length : tie.Need-same-length Inv-loop μ-loop
-same-length c = going-long (c .before .before .before .before .before .loop .inv) ∙ zeros-long (length (now (c .before .before .before .before .before .before .before .before .before .before .before .before .before .before .before .before .before .before .args .arcs))) (c .before .before .before .before .before .before .before .before .before .zero-bytes .ensures)
+same-length c = going-long (c .before .before .before .before .before .loop .inv) ∙ zeros-long (length (now (c .before .before .before .before .before .before .before .before .before .before .before .before .before .before .before .before .before .before .before .before .before .before .before .before .before .before .args .arcs))) (c .before .before .before .before .before .before .before .before .before .zero-bytes .ensures)
 
 same-length-2 : tie.Need-same-length-2 Inv-loop μ-loop
-same-length-2 c = going-same (c .before .before .before .before .before .loop .inv) (c .before .before .before .before .before .before .before .before .before .before .before .before .before .before .before .before .before .before .pre .4) (c .before .put-downs2 .ensures)
+same-length-2 c = going-same (c .before .before .before .before .before .loop .inv) (c .before .before .before .before .before .before .before .before .before .before .before .before .before .before .before .before .before .before .before .before .before .before .before .before .before .before .pre .4) (c .before .put-downs2 .ensures)
 
 returns : tie.Need-returns Inv-loop μ-loop
 returns c =
-    let n = length (now (c .before .before .before .before .before .before .before .before .before .before .before .before .before .before .before .before .before .before .args .arcs)) in
+    let n = length (now (c .before .before .before .before .before .before .before .before .before .before .before .before .before .before .before .before .before .before .before .before .before .before .before .before .before .before .args .arcs)) in
     let e = going-end (c .before .before .before .before .before .loop .inv) n (zeros-long n (c .before .before .before .before .before .before .before .before .before .zero-bytes .ensures)) (c .before .before .before .before .loop-test .left) (c .before .put-downs2 .ensures) in
     (e .0, (e .1, e .2))
 
@@ -259,6 +268,7 @@ build-spec =
     mul-size-2
     bounds-of-requires
     slice-aggregate-reaches
+    slice-aggregate-reaches-2
     reaches-requires
     zero-bytes-requires
     one-node-requires
