@@ -69,8 +69,8 @@ pub record SoFar (s : List ℕ) (n m first : ℕ) (kinds values slots : List ℕ
   pub left : rulesNext version1 n m (drop first s) ≡ behind done (rulesNext version1 n (m - k) (drop at s))
 
 -- none
-pub so-far-none : (s : List ℕ) (n m first : ℕ) → SoFar s n m first (replicate 8 0) (replicate 8 0) (replicate 8 0) (replicate 192 (pos 0)) (replicate 8 (pos 0)) (replicate 8 (pos 0)) first 0
-so-far-none s n m first =
+pub so-far-none : (s : List ℕ) (n m first : ℕ) {coefs : List ℤ} → coefs ≡ replicate 192 (pos 0) → SoFar s n m first (replicate 8 0) (replicate 8 0) (replicate 8 0) coefs (replicate 8 (pos 0)) (replicate 8 (pos 0)) first 0
+so-far-none s n m first zero =
     let all : m - 0 ≡ m = omega arith in
     record {
       done = [];
@@ -78,7 +78,7 @@ so-far-none s n m first =
       kinds-are = refl;
       values-are = refl;
       slots-are = refl;
-      coefs-are = refl;
+      coefs-are = zero;
       lb-are = refl;
       ub-are = refl;
       left = rw all (behind-none (rulesNext version1 n m (drop first s)));
@@ -104,42 +104,43 @@ rows-more {k = k} done x h count filled short pasted =
     let room : length l + length cs ≤ 192 = omega arith in
     pasted ∙ rw (filled, gather-more row done x) (rw long at (padded-paste (pos 0) 192 l cs room) ∙ sym (padded-row (pos 0) 192 24 l cs short))
 
-module _ {s : List ℕ} {n m first : ℕ} {kinds values slots : List ℕ} {coefs lb ub : List ℤ} {at k : ℕ} (so : SoFar s n m first kinds values slots coefs lb ub at k) (h : k < m) where
-  left-on : rulesNext version1 n m (drop first s) ≡ behind (so .done) (onward (ruleNext n (drop at s)) (others n (m - (k + 1)) (drop at s)))
-  left-on =
-      let more : m - k ≡ suc (m - (k + 1)) = omega arith in
-      so .left ∙ ap (behind (so .done)) (ap (λ (j : ℕ). rulesNext version1 n j (drop at s)) more ∙ next-rule n (m - (k + 1)) (drop at s))
-
+module _ {s : List ℕ} {n m first : ℕ} {kinds values slots : List ℕ} {coefs lb ub : List ℤ} {at k : ℕ} (so : SoFar s n m first kinds values slots coefs lb ub at k) where
   -- the table is whole
   pub so-far-table : length coefs ≡ 192
   so-far-table = ap length (so .coefs-are) ∙ length-padded (pos 0) 192 (gather row (so .done))
 
-  -- the next one is refused
-  pub so-far-refused : {e : ℕ} → ruleNext n (drop at s) ≡ refused e → rulesNext version1 n m (drop first s) ≡ refused e
-  so-far-refused e = left-on ∙ rw e refl
+  module _ (h : k < m) where
+    left-on : rulesNext version1 n m (drop first s) ≡ behind (so .done) (onward (ruleNext n (drop at s)) (others n (m - (k + 1)) (drop at s)))
+    left-on =
+        let more : m - k ≡ suc (m - (k + 1)) = omega arith in
+        so .left ∙ ap (behind (so .done)) (ap (λ (j : ℕ). rulesNext version1 n j (drop at s)) more ∙ next-rule n (m - (k + 1)) (drop at s))
 
-  -- the next one is read
-  pub so-far-more : {coefs′ : List ℤ} {r : RuleAt} {low high : ℤ} → m ≤ 8 → low ≡ r .lb → high ≡ r .ub → Is (λ (x : Said) (rest : List ℕ). RuleIs s (k * 24) coefs coefs′ x rest r) (ruleNext n (drop at s))
-      → SoFar s n m first (set kinds k (r .kind)) (set values k (r .values)) (set slots k (r .slots)) coefs′ (set lb k low) (set ub k high) (r .next .at) (k + 1)
-  so-far-more b p q g =
-      let x = g .value in
-      let d = so .done in
-      let i : k < 8 = omega arith in
-      record {
-        done = d ++ x ∷ [];
-        count = length-append d (x ∷ []) ∙ ap (λ (j : ℕ). j + 1) (so .count);
-        kinds-are = field-more (λ (y : Said). kindOf (y .terms)) 0 d x i (so .count) (so .kinds-are) (g .holds .kind);
-        values-are = field-more (λ (y : Said). valuesOf (y .terms)) 0 d x i (so .count) (so .values-are) (g .holds .values);
-        slots-are = field-more (λ (y : Said). slotsOf (y .terms)) 0 d x i (so .count) (so .slots-are) (g .holds .slots);
-        coefs-are = rows-more d x i (so .count) (so .coefs-are) (g .holds .row) (g .holds .table);
-        lb-are = field-more (λ (y : Said). y .lb) (pos 0) d x i (so .count) (so .lb-are) (p ∙ g .holds .lb);
-        ub-are = field-more (λ (y : Said). y .ub) (pos 0) d x i (so .count) (so .ub-are) (q ∙ g .holds .ub);
-        left = left-on ∙ rw (g .is) (one-more d x (rulesNext version1 n (m - (k + 1)) (g .rest)) ∙ rw (g .holds .next) refl);
-      }
+    -- the next one is refused
+    pub so-far-refused : {e : ℕ} → ruleNext n (drop at s) ≡ refused e → rulesNext version1 n m (drop first s) ≡ refused e
+    so-far-refused e = left-on ∙ rw e refl
+
+    -- the next one is read
+    pub so-far-more : {coefs′ : List ℤ} {r : RuleAt} {low high : ℤ} → m ≤ 8 → low ≡ r .lb → high ≡ r .ub → Is (λ (x : Said) (rest : List ℕ). RuleIs s (k * 24) coefs coefs′ x rest r) (ruleNext n (drop at s))
+        → SoFar s n m first (set kinds k (r .kind)) (set values k (r .values)) (set slots k (r .slots)) coefs′ (set lb k low) (set ub k high) (r .next .at) (k + 1)
+    so-far-more b p q g =
+        let x = g .value in
+        let d = so .done in
+        let i : k < 8 = omega arith in
+        record {
+          done = d ++ x ∷ [];
+          count = length-append d (x ∷ []) ∙ ap (λ (j : ℕ). j + 1) (so .count);
+          kinds-are = field-more (λ (y : Said). kindOf (y .terms)) 0 d x i (so .count) (so .kinds-are) (g .holds .kind);
+          values-are = field-more (λ (y : Said). valuesOf (y .terms)) 0 d x i (so .count) (so .values-are) (g .holds .values);
+          slots-are = field-more (λ (y : Said). slotsOf (y .terms)) 0 d x i (so .count) (so .slots-are) (g .holds .slots);
+          coefs-are = rows-more d x i (so .count) (so .coefs-are) (g .holds .row) (g .holds .table);
+          lb-are = field-more (λ (y : Said). y .lb) (pos 0) d x i (so .count) (so .lb-are) (p ∙ g .holds .lb);
+          ub-are = field-more (λ (y : Said). y .ub) (pos 0) d x i (so .count) (so .ub-are) (q ∙ g .holds .ub);
+          left = left-on ∙ rw (g .is) (one-more d x (rulesNext version1 n (m - (k + 1)) (g .rest)) ∙ rw (g .holds .next) refl);
+        }
 
 -- all
-pub so-far-all : (s : List ℕ) (n m first : ℕ) (r : RulesAt) → r .number ≡ 0 → SoFar s n m first (r .kinds) (r .values) (r .slots) (r .coefs) (r .lb) (r .ub) (r .next .at) m
-    → RulesTold s m (rulesNext version1 n m (drop first s)) r
+pub so-far-all : (s : List ℕ) (n m first : ℕ) {t : List ℤ} (r : RulesAt) → r .number ≡ 0 → SoFar s n m first (r .kinds) (r .values) (r .slots) t (r .lb) (r .ub) (r .next .at) m
+    → RulesTold s m t (rulesNext version1 n m (drop first s)) r
 so-far-all s n m first r z so =
     let none : m - m ≡ 0 = omega arith in
     let all : rulesNext version1 n m (drop first s) ≡ got (so .done) (drop (r .next .at) s) =

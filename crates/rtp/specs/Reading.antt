@@ -43,40 +43,21 @@ RuleTold s to t t′ g r = Told (λ (x : Said) (rest : List ℕ). RuleIs s to t 
 abbrev pub AmongTold : List ℕ → Got Said → RuleAt → Type 0
 AmongTold s g r = (to : ℕ) (t : List ℤ) → RuleTold s to t t g r
 
--- ---- m rules
-pub record RulesAre (s : List ℕ) (m : ℕ) (rs : List Said) (rest : List ℕ) (r : RulesAt) : Type 0 where
+-- ---- m rules; their coefficients went to the table t
+pub record RulesAre (s : List ℕ) (m : ℕ) (t : List ℤ) (rs : List Said) (rest : List ℕ) (r : RulesAt) : Type 0 where
   pub count : length rs ≡ m
   pub kinds : r .kinds ≡ eachRule (λ (x : Said). kindOf (x .terms)) 0 rs
   pub values : r .values ≡ eachRule (λ (x : Said). valuesOf (x .terms)) 0 rs
   pub slots : r .slots ≡ eachRule (λ (x : Said). slotsOf (x .terms)) 0 rs
-  pub coefs : r .coefs ≡ rows rs
+  pub coefs : t ≡ rows rs
   pub lb : r .lb ≡ eachRule (λ (x : Said). x .lb) (pos 0) rs
   pub ub : r .ub ≡ eachRule (λ (x : Said). x .ub) (pos 0) rs
   pub next : drop (r .next .at) s ≡ rest
 
 -- the rules, or a refusal
-abbrev pub RulesTold : List ℕ → ℕ → Got (List Said) → RulesAt → Type 0
-RulesTold s m g r = Told (λ (rs : List Said) (rest : List ℕ). RulesAre s m rs rest r) (r .number) g
+abbrev pub RulesTold : List ℕ → ℕ → List ℤ → Got (List Said) → RulesAt → Type 0
+RulesTold s m t g r = Told (λ (rs : List Said) (rest : List ℕ). RulesAre s m t rs rest r) (r .number) g
 
--- ---- a problem: what was read, field by field
-abbrev pub acceptedAs : ℕ → ℕ → List ℕ → List ℤ → RulesAt → Reading
-acceptedAs n m sets weights r =
-    record {
-      number = 0;
-      problem = record {
-        n = n;
-        m = m;
-        sets = sets;
-        weights = weights;
-        kinds = r .kinds;
-        values = r .values;
-        slots = r .slots;
-        coefs = r .coefs;
-        lb = r .lb;
-        ub = r .ub;
-      };
-    }
-
--- number 0 and the problem by value, or a refusal's number and a problem that is all zero
+-- ---- a file: number 0 and the problem by value, or a refusal's number and a problem that is all zero
 abbrev pub readAs : Read → Reading
 readAs r = record { number = r .number; problem = held (r .problem) }

@@ -1,12 +1,13 @@
 // The reader of plan files: a cursor by value, the first fault in file order, or the problem by value.
 ghost use mathlib.Core.Path.{_≡_};
 ghost use Prim.Native.Nat.{_+_, _*_, _≤_};
-ghost use lib.ListN.{length, take, drop};
+ghost use lib.ListN.{length, take, drop, replicate};
+ghost use lib.IntN.{pos};
 ghost use Rattle.laws.specs.Lists.{same};
 ghost use Rattle.meaning.specs.Problem.{version1};
 ghost use Rattle.meaning.specs.File.{refused, mark, problemNext, rulesNext, bodyNext, amongBody, sumBody};
 ghost use Rattle.meaning.specs.Calls.{readAnswer, read};
-ghost use Rattle.rtp.specs.Reading.{ruleNext, AmongTold, RuleTold, RulesTold, acceptedAs, readAs};
+ghost use Rattle.rtp.specs.Reading.{ruleNext, AmongTold, RuleTold, RulesTold, readAs};
 use cursor::Cursor;
 use problem::Problem;
 use problem::ROW;
@@ -31,12 +32,12 @@ pub struct RuleAt {
     pub next: Cursor,
 }
 
+// The rules' fields beside their coefficients.
 pub struct RulesAt {
     pub number: u32,
     pub kinds: [u8; 8],
     pub values: [u16; 8],
     pub slots: [u32; 8],
-    pub coefs: [i32; 192],
     pub lb: [i32; 8],
     pub ub: [i32; 8],
     pub next: Cursor,
@@ -87,7 +88,6 @@ fn refused_rules(k: u32) -> RulesAt
         kinds: [0u8; 8],
         values: [0u16; 8],
         slots: [0u32; 8],
-        coefs: [0i32; 192],
         lb: [0i32; 8],
         ub: [0i32; 8],
         next: Cursor { at: 0 },
@@ -110,33 +110,6 @@ fn refused(k: u32) -> Reading
             coefs: [0i32; 192],
             lb: [0i32; 8],
             ub: [0i32; 8],
-        },
-    }
-}
-
-// The problem of what was read.
-fn accepted(n: usize, m: usize, sets: [u16; 24], weights: [i32; 24], r: RulesAt) -> Reading
-    ensures { λ q. ⌜ q ≡ acceptedAs n m sets weights r ⌝ }
-{
-    let kinds = r.kinds;
-    let values = r.values;
-    let slots = r.slots;
-    let coefs = r.coefs;
-    let lb = r.lb;
-    let ub = r.ub;
-    Reading {
-        number: 0,
-        problem: Problem {
-            n: n,
-            m: m,
-            sets: sets,
-            weights: weights,
-            kinds: kinds,
-            values: values,
-            slots: slots,
-            coefs: coefs,
-            lb: lb,
-            ub: ub,
         },
     }
 }
@@ -217,21 +190,20 @@ fn rule_at(place: Cursor, s: &[u8], n: usize, coefs: &mut [i32], to: usize) -> R
     }
 }
 
-// m rules, each where the one before ended, up to the first that is refused.
-fn rules_at(place: Cursor, s: &[u8], n: usize, m: usize) -> RulesAt
-    requires { ⌜ (n ≤ 24) × (m ≤ 8) ⌝ }
-    ensures { λ r. ⌜ RulesTold (now (s .entry)) m (rulesNext version1 n m (drop (place .at) (now (s .entry)))) r ⌝ }
+// m rules, each where the one before ended, up to the first that is refused; their coefficients go to the lent table, all zero before.
+fn rules_at(place: Cursor, s: &[u8], n: usize, m: usize, coefs: &mut [i32]) -> RulesAt
+    requires { ⌜ (n ≤ 24) × (m ≤ 8) × (now coefs ≡ replicate 192 (pos 0)) ⌝ }
+    ensures { λ r. ⌜ RulesTold (now (s .entry)) m (now (coefs .exit)) (rulesNext version1 n m (drop (place .at) (now (s .entry)))) r ⌝ }
 {
     let mut kinds = [0u8; 8];
     let mut values = [0u16; 8];
     let mut slots = [0u32; 8];
-    let mut coefs = [0i32; 192];
     let mut lb = [0i32; 8];
     let mut ub = [0i32; 8];
     let mut c = place;
     let mut k: usize = 0;
     while k < m {
-        let r = rule_at(c, s, n, &mut coefs, k * ROW);
+        let r = rule_at(c, s, n, coefs, k * ROW);
         if r.number != 0 {
             return refused_rules(r.number);
         }
@@ -250,7 +222,6 @@ fn rules_at(place: Cursor, s: &[u8], n: usize, m: usize) -> RulesAt
         kinds: kinds,
         values: values,
         slots: slots,
-        coefs: coefs,
         lb: lb,
         ub: ub,
         next: c,
@@ -280,14 +251,34 @@ fn sections(place: Cursor, s: &[u8], n: usize, m: usize) -> Reading
     if !problem::weights_are_right(&ws[..n]) {
         return refused(5);
     }
-    let rules = rules_at(weights.next, s, n, m);
+    let mut coefs = [0i32; 192];
+    let rules = rules_at(weights.next, s, n, m, &mut coefs);
     if rules.number != 0 {
         return refused(rules.number);
     }
     if rules.next.left(s) != 0 {
         return refused(7);
     }
-    accepted(n, m, ss, ws, rules)
+    let kinds = rules.kinds;
+    let values = rules.values;
+    let slots = rules.slots;
+    let lb = rules.lb;
+    let ub = rules.ub;
+    Reading {
+        number: 0,
+        problem: Problem {
+            n: n,
+            m: m,
+            sets: ss,
+            weights: ws,
+            kinds: kinds,
+            values: values,
+            slots: slots,
+            coefs: coefs,
+            lb: lb,
+            ub: ub,
+        },
+    }
 }
 
 // What a plan file says.

@@ -1,9 +1,9 @@
 -- `rules_at` meets its contract: each rule stands where the one before ended; the first fault stops the loop.
 use borrow.Author.Needs.{needs}
-use mathlib.Core.Path.{_≡_, refl, sym}
+use mathlib.Core.Path.{_≡_, refl, sym, ap, _∙_}
 use native.Mathlib.Omega.{arith}
 use Prim.Native.Nat.{_-_, _≤_}
-use lib.ListN.{drop}
+use lib.ListN.{length, drop}
 use mir.Syntax.{w32}
 use mir.Val.{SFits}
 use mir.Facts.{toZ-ofZ}
@@ -13,27 +13,30 @@ use Rattle.rtp.proofs.rules_at.Statement.{statement}
 use Rattle.rtp.proofs.rules_at.Tie as tie
 
 abbrev Inv-loop : tie.InvT-loop
-Inv-loop s n m kinds₀ values₀ slots₀ coefs₀ lb₀ ub₀ c₀ k₀ kinds values slots coefs lb ub c k = (k ≤ m) × SoFar s n m (c₀ .at) kinds values slots coefs lb ub (c .at) k
+Inv-loop s n m coefs₀ kinds₀ values₀ slots₀ lb₀ ub₀ c₀ k₀ coefs kinds values slots lb ub c k = (k ≤ m) × SoFar s n m (c₀ .at) kinds values slots coefs lb ub (c .at) k
 
 abbrev μ-loop : tie.MeasureT-loop
-μ-loop s n m kinds₀ values₀ slots₀ coefs₀ lb₀ ub₀ c₀ k₀ kinds values slots coefs lb ub c k = m - k
+μ-loop s n m coefs₀ kinds₀ values₀ slots₀ lb₀ ub₀ c₀ k₀ coefs kinds values slots lb ub c k = m - k
 
 loop-holds : tie.Need-loop-holds Inv-loop μ-loop
-loop-holds c = (omega arith, so-far-none (c .before .args .s .now) (c .before .args .n) (c .before .args .m) (c .before .args .place .at))
-
-slice-aggregate-rule-at : tie.Need-slice-aggregate-rule-at Inv-loop μ-loop
-slice-aggregate-rule-at c = sym (so-far-table (c .before .before .loop .inv .1) (c .before .loop-test .taken))
+loop-holds c = (omega arith, so-far-none (c .before .args .s .now) (c .before .args .n) (c .before .args .m) (c .before .args .place .at) (c .before .pre .2))
 
 mul-rule-at : tie.Need-mul-rule-at Inv-loop μ-loop
 mul-rule-at c = search needs
 
 rule-at-requires : tie.Need-rule-at-requires Inv-loop μ-loop
 rule-at-requires c κs =
-    let long = so-far-table (c .before .before .loop .inv .1) (c .before .loop-test .taken) in
+    let long = so-far-table (c .before .before .loop .inv .1) in
     (c .before .before .before .before .pre .0, omega arith)
 
 refused-rules-requires : tie.Need-refused-rules-requires Inv-loop μ-loop
 refused-rules-requires c κs = search needs
+
+same-length : tie.Need-same-length Inv-loop μ-loop
+same-length c =
+    let long = so-far-table (c .before .before .before .before .before .before .before .loop .inv .1) in
+    let zero = ap length (c .before .before .before .before .before .before .before .before .before .pre .2) in
+    omega (arith, long, zero)
 
 returns : tie.Need-returns Inv-loop μ-loop
 returns c =
@@ -86,6 +89,9 @@ loop-again c =
     let g = told-read _ (ruleNext (s .args .n) (drop (l .c .at) (s .args .s .now))) (r .ensures) (c .before .before .before .if1 .left) in
     (omega arith, so-far-more (l .inv .1) (c .before .before .before .before .before .before .before .before .loop-test .taken) (s .pre .1) (toZ-ofZ low) (toZ-ofZ high) g)
 
+same-length-2 : tie.Need-same-length-2 Inv-loop μ-loop
+same-length-2 c = so-far-table (c .before .loop .inv .1) ∙ sym (ap length (c .before .before .before .pre .2))
+
 returns-2 : tie.Need-returns-2 Inv-loop μ-loop
 returns-2 c =
     let s = c .before .before .before in
@@ -100,10 +106,10 @@ rules-at-spec =
     Inv-loop
     μ-loop
     loop-holds
-    slice-aggregate-rule-at
     mul-rule-at
     rule-at-requires
     refused-rules-requires
+    same-length
     returns
     array-write-kinds
     mul-values
@@ -117,4 +123,5 @@ rules-at-spec =
     add-k
     loop-less
     loop-again
+    same-length-2
     returns-2)

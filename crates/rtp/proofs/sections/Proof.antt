@@ -2,7 +2,7 @@
 use borrow.Author.Needs.{needs}
 use borrow.Author.Tests.{not-true, not-false}
 use mathlib.Core.Bool.{true}
-use mathlib.Core.Path.{_≡_, sym, ap, subst, _∙_}
+use mathlib.Core.Path.{_≡_, refl, sym, ap, subst, _∙_}
 use mathlib.Core.List.{List, map}
 use native.Mathlib.Omega.{arith}
 use Prim.Native.Nat.{ℕ, _+_, _*_, _≤_, _<_}
@@ -15,7 +15,7 @@ use Rattle.meaning.specs.Problem.{Said, size, rightHead, rightSet, version1}
 use Rattle.meaning.specs.File.{Got, got, little, signed, rulesNext}
 use Rattle.meaning.specs.Calls.{readAnswer}
 use Rattle.meaning.proofs.Faultless.{HeadRange, test-range}
-use Rattle.rtp.specs.Reading.{Told, RulesAre, acceptedAs, readAs}
+use Rattle.rtp.specs.Reading.{Told, RulesAre, readAs}
 use Rattle.rtp.proofs.Rules.{told-read, told-refused}
 use Rattle.rtp.proofs.Whole.{told-as, part-long, part-whole, part-tested, sets, behindSets, weights, behindWeights, head-wrong, sets-short, sets-wrong, weights-short, weights-wrong, rules-refused, bytes-left, accepted}
 use Rattle.rtp.proofs.sections.Statement.{statement}
@@ -64,7 +64,7 @@ abbrev from-weights-right : tie.Else5 → tie.Else1
 from-weights-right c = c .before .before .before .before .before .before .before .before .before .before .before .before .before .before
 
 abbrev from-rules : tie.After-rules-at → tie.Else1
-from-rules c = c .before .before .before .before .before .before .before .before .before .before .before .before .before .before .before
+from-rules c = c .before .before .before .before .before .before .before .before .before .before .before .before .before .before .before .before
 
 -- the step sets are there
 module _ (c : tie.Else2) where
@@ -125,10 +125,10 @@ module _ (c : tie.After-rules-at) where
   rules-in = rulesNext version1 (n (from-rules c)) (m (from-rules c)) (behindWeights (n (from-rules c)) (m (from-rules c)) (bytes (from-rules c)))
 
   abbrev AreRules : List Said → List ℕ → Type 0
-  AreRules rs rest = RulesAre (file (from-rules c)) (m (from-rules c)) rs rest (c .rules-at .result)
+  AreRules rs rest = RulesAre (file (from-rules c)) (m (from-rules c)) (c .rules-at .last .1 .1 .1 .1 .0) rs rest (c .rules-at .result)
 
   rules-told : Told AreRules (c .rules-at .result .number) rules-in
-  rules-told = subst (λ (t : List ℕ). Told AreRules (c .rules-at .result .number) (rulesNext version1 (n (from-rules c)) (m (from-rules c)) t)) (behind-weights (c .before .before .before .before .before)) (c .rules-at .ensures)
+  rules-told = subst (λ (t : List ℕ). Told AreRules (c .rules-at .result .number) (rulesNext version1 (n (from-rules c)) (m (from-rules c)) t)) (behind-weights (c .before .before .before .before .before .before)) (c .rules-at .ensures)
 
 head-is-right-requires : tie.Need-head-is-right-requires
 head-is-right-requires c κs = search needs
@@ -218,20 +218,23 @@ returns-5 c =
     let no = sym (weights-tested w) ∙ not-true _ (c .before .if5 .taken) in
     told-as (c .refused5 .ensures) (weights-wrong (n p) (m p) (bytes p) (head-right p) (sets-there q) (sets-right r) (weights-there s) no)
 
+slice-aggregate-rules-at : tie.Need-slice-aggregate-rules-at
+slice-aggregate-rules-at c = search needs
+
 rules-at-requires : tie.Need-rules-at-requires
-rules-at-requires c κs = let p = c .before .before .before .before .before .before .before .before .before .before .before .before .before .before in (range p .most, range p .rules)
+rules-at-requires c κs = let p = c .before .before .before .before .before .before .before .before .before .before .before .before .before .before .before in (range p .most, range p .rules, refl)
 
 refused-requires-6 : tie.Need-refused-requires-6
 refused-requires-6 c κs = search needs
 
 returns-6 : tie.Need-returns-6
 returns-6 c =
-    let a = c .before .before .before in
-    let p = a .before .before .before .before .before .before .before .before .before .before .before .before .before .before .before in
-    let q = a .before .before .before .before .before .before .before .before .before .before .before .before .before in
-    let r = a .before .before .before .before .before .before .before .before in
-    let v = a .before .before .before .before .before .before in
-    let w = a .before in
+    let a = c .before .before .before .before in
+    let p = a .before .before .before .before .before .before .before .before .before .before .before .before .before .before .before .before in
+    let q = a .before .before .before .before .before .before .before .before .before .before .before .before .before .before in
+    let r = a .before .before .before .before .before .before .before .before .before in
+    let v = a .before .before .before .before .before .before .before in
+    let w = a .before .before in
     told-as (c .refused6 .ensures) (rules-refused (n p) (m p) (bytes p) (head-right p) (sets-there q) (sets-right r) (weights-there v) (weights-right w) (told-refused (AreRules a) (rules-in a) (rules-told a) (c .before .if6 .taken) .0))
 
 left-requires-3 : tie.Need-left-requires-3
@@ -242,36 +245,33 @@ refused-requires-7 c κs = search needs
 
 returns-7 : tie.Need-returns-7
 returns-7 c =
-    let a = c .before .before .before .before .before in
-    let p = a .before .before .before .before .before .before .before .before .before .before .before .before .before .before .before in
-    let q = a .before .before .before .before .before .before .before .before .before .before .before .before .before in
-    let r = a .before .before .before .before .before .before .before .before in
-    let v = a .before .before .before .before .before .before in
-    let w = a .before in
+    let a = c .before .before .before .before .before .before in
+    let p = a .before .before .before .before .before .before .before .before .before .before .before .before .before .before .before .before in
+    let q = a .before .before .before .before .before .before .before .before .before .before .before .before .before .before in
+    let r = a .before .before .before .before .before .before .before .before .before in
+    let v = a .before .before .before .before .before .before .before in
+    let w = a .before .before in
     let g = told-read (AreRules a) (rules-in a) (rules-told a) (c .before .before .before .if6 .left) in
     let more : length (g .rest) ≡ 0 → ⊥ = λ z. omega (arith, c .before .if7 .taken, c .before .before .left3 .ensures, length-drop (a .rules-at .result .next .at) (file p), ap length (g .holds .next)) in
     told-as (c .refused7 .ensures) (bytes-left (n p) (m p) (bytes p) (head-right p) (sets-there q) (sets-right r) (weights-there v) (weights-right w) (g .is) more)
 
-accepted-requires : tie.Need-accepted-requires
-accepted-requires c κs = search needs
-
 returns-8 : tie.Need-returns-8
 returns-8 c =
-    let a = c .before .before .before .before .before in
-    let p = a .before .before .before .before .before .before .before .before .before .before .before .before .before .before .before in
-    let q = a .before .before .before .before .before .before .before .before .before .before .before .before .before in
-    let r = a .before .before .before .before .before .before .before .before in
-    let v = a .before .before .before .before .before .before in
-    let w = a .before in
-    let g = told-read (AreRules a) (rules-in a) (rules-told a) (c .before .before .before .if6 .left) in
-    let none : length (g .rest) ≡ 0 = omega (arith, c .before .before .left3 .ensures, c .before .if7 .left, length-drop (a .rules-at .result .next .at) (file p), ap length (g .holds .next)) in
-    let fields : acceptedAs (n p) (m p) _ _ (a .rules-at .result) ≡ readAs (readAnswer (got (record { sets = sets (n p) (m p) (bytes p); weights = weights (n p) (m p) (bytes p); rules = g .value }) (g .rest))) = λ i. record {
+    let a = c .before .before .before .before .before .before .before .before .before .before in
+    let p = a .before .before .before .before .before .before .before .before .before .before .before .before .before .before .before .before in
+    let q = a .before .before .before .before .before .before .before .before .before .before .before .before .before .before in
+    let r = a .before .before .before .before .before .before .before .before .before in
+    let v = a .before .before .before .before .before .before .before in
+    let w = a .before .before in
+    let g = told-read (AreRules a) (rules-in a) (rules-told a) (c .before .before .before .before .before .before .before .if6 .left) in
+    let none : length (g .rest) ≡ 0 = omega (arith, c .before .before .before .before .before .before .left3 .ensures, c .before .before .before .before .before .if7 .left, length-drop (a .rules-at .result .next .at) (file p), ap length (g .holds .next)) in
+    let fields : _ ≡ readAs (readAnswer (got (record { sets = sets (n p) (m p) (bytes p); weights = weights (n p) (m p) (bytes p); rules = g .value }) (g .rest))) = λ i. record {
       number = 0;
       problem = record {
         n = sym (length-fields little (n p) 1 (bytes p)) i;
         m = sym (g .holds .count) i;
         sets = r .before .before .before .before .sets .ensures .0 i;
-        weights = (a .before .before .before .before .before .weights .ensures .0 ∙ ap (padded 24 (pos 0)) (weights-are (a .before .before .before .before .before))) i;
+        weights = (a .before .before .before .before .before .before .weights .ensures .0 ∙ ap (padded 24 (pos 0)) (weights-are (a .before .before .before .before .before .before))) i;
         kinds = g .holds .kinds i;
         values = g .holds .values i;
         slots = g .holds .slots i;
@@ -280,7 +280,7 @@ returns-8 c =
         ub = g .holds .ub i;
       };
     } in
-    told-as (c .accepted .ensures ∙ fields) (accepted (n p) (m p) (bytes p) (head-right p) (sets-there q) (sets-right r) (weights-there v) (weights-right w) (g .is) none)
+    told-as fields (accepted (n p) (m p) (bytes p) (head-right p) (sets-there q) (sets-right r) (weights-there v) (weights-right w) (g .is) none)
 
 pub sections-spec : {M : Type 1} → statement M
 sections-spec =
@@ -308,11 +308,11 @@ sections-spec =
     weights-are-right-requires
     refused-requires-5
     returns-5
+    slice-aggregate-rules-at
     rules-at-requires
     refused-requires-6
     returns-6
     left-requires-3
     refused-requires-7
     returns-7
-    accepted-requires
     returns-8)
