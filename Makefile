@@ -18,8 +18,9 @@ PLANNER = $(wildcard $(TOOLS)/bin/qemu-x86_64) $(TOOLS)/lib/ld-linux-x86-64.so.2
 run: target/bin/planner
 	@$(PLANNER) <"$(or $(FILE),/dev/null)"
 
-target/bin/planner:
+target/bin/planner: $(wildcard crates/*/src/*.rt)
 	@rt check planner >&2
+	@touch $@
 
 # What links the archive is built for x86-64 and runs by RUN. What is timed or watched links NATIVE: the archive itself, or where the
 # machine is another the same sources compiled for it.
