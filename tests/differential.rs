@@ -354,15 +354,6 @@ impl Counts {
         }
     }
 
-    fn add(&mut self, y: &Counts) {
-        self.done.iter_mut().zip(&y.done).for_each(|(a, b)| *a += b);
-        self.refused.iter_mut().zip(&y.refused).for_each(|(a, b)| *a += b);
-        self.accepted += y.accepted;
-        self.open += y.open;
-        self.dropped += y.dropped;
-        self.long += y.long;
-    }
-
     /// Were there enough of each sort, and every refusal?
     fn is_enough(&self, count: u64) -> bool {
         let at_least = |x: u64, hundredths: u64| x * 100 >= count * hundredths;
@@ -382,28 +373,19 @@ fn unfiltered(c: &Case) -> (bool, Vec<u8>) {
     (out[2] == 0, arcs)
 }
 
-/// These cases of a seed, one after the other.
-fn run(seed: u64, cases: impl Iterator<Item = u64>, guard: usize) -> Counts {
-    let (mut ours, mut theirs) = (Side::new(), Side::new());
-    let mut x = Counts::default();
-    for k in cases {
-        let c = case(&mut Rng(seed.wrapping_mul(1 << 32).wrapping_add(k)), guard);
-        let number = compared([seed, k], &c, &mut ours, &mut theirs);
-        x.count(&c, number, &mut theirs);
-    }
-    x
-}
-
 fn main() {
     let args: Vec<String> = std::env::args().collect();
     let number = |k: usize, otherwise: u64| args.get(k).map_or(otherwise, |s| s.parse().expect("a number"));
     let (seed, count) = (number(1, 1), number(2, 100_000));
     let guard = if args.get(3).map_or(false, |a| a == "bare") { 0 } else { GUARD };
     assert_eq!(archive::version(), VERSION);
-    let threads = std::thread::available_parallelism().map_or(1, |n| n.get() as u64);
-    let parts: Vec<_> = (0..threads).map(|t| std::thread::spawn(move || run(seed, (t..count).step_by(threads as usize), guard))).collect();
+    let (mut ours, mut theirs) = (Side::new(), Side::new());
     let mut x = Counts::default();
-    parts.into_iter().for_each(|part| x.add(&part.join().expect("a thread that ended")));
+    for k in 0..count {
+        let c = case(&mut Rng(seed.wrapping_mul(1 << 32).wrapping_add(k)), guard);
+        let number = compared([seed, k], &c, &mut ours, &mut theirs);
+        x.count(&c, number, &mut theirs);
+    }
     OPERATIONS.iter().zip(&x.done).for_each(|(name, k)| print!("{} {} ", k, name));
     println!("calls; by number from 0: {:?}", x.refused);
     println!(
