@@ -100,7 +100,7 @@ fuzz: $(X)/differential
 # library: examples and differential test. Where x86-64 programs can be neither run nor installed for, the test runs on this machine's build.
 .PHONY: library
 library:
-	@if tools/cross.sh >/dev/null; then $(MAKE) --no-print-directory example differential; else $(MAKE) --no-print-directory here; fi
+	@if tools/cross.sh >/dev/null; then $(MAKE) --no-print-directory -j2 example differential; else $(MAKE) --no-print-directory here; fi
 
 .PHONY: here
 here: $(H)/differential
