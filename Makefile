@@ -6,7 +6,7 @@ SHELL = /bin/bash
 .PHONY: test
 test:
 	@rt fmt --check
-	@log=$$(mktemp) && trap "rm $$log" EXIT && rt ci | tee $$log && $(MAKE) --no-print-directory reference library && tail -n 1 $$log
+	@log=$$(mktemp) && trap "rm $$log" EXIT && rt ci | tee $$log && $(MAKE) --no-print-directory -j2 reference $(ARCHIVE) cross && $(MAKE) --no-print-directory library && tail -n 1 $$log
 
 # run: the planner on FILE (make run FILE=plan.rtp), without FILE on empty input, so on its built-in case; built where it is missing.
 # A program is for x86-64: the kit's loader runs it, on another processor under the kit's emulator.
@@ -98,9 +98,12 @@ fuzz: $(X)/differential
 	@$(RUN) $< $(SEED) $(N)
 
 # library: examples and differential test. Where x86-64 programs can be neither run nor installed for, the test runs on this machine's build.
-.PHONY: library
+.PHONY: library cross
 library:
 	@if tools/cross.sh >/dev/null; then $(MAKE) --no-print-directory -j2 example differential; else $(MAKE) --no-print-directory here; fi
+
+cross:
+	@tools/cross.sh >/dev/null || true
 
 .PHONY: here
 here: $(H)/differential
