@@ -25,17 +25,18 @@ target/bin/planner: $(wildcard crates/*/src/*.rt)
 # What links the archive is built for x86-64 and runs by RUN. What is timed or watched links NATIVE: the archive itself, or where the
 # machine is another the same sources compiled for it.
 ARCHIVE = target/staticlib/libbrennigou.a
-NATIVE_RUSTC = rustc
+# without make's own variables, in which rustc would look for its job server
+NATIVE_RUSTC = env -u MAKEFLAGS rustc
 FLAGS = --edition 2021 -C opt-level=3 -C codegen-units=1 -C panic=abort
 X = target/x86-64
 ifeq ($(shell uname -m),x86_64)
 CROSS_CC = cc
-RUSTC = rustc
+RUSTC = $(NATIVE_RUSTC)
 RUN =
 NATIVE = $(ARCHIVE)
 else
 CROSS_CC = x86_64-linux-gnu-gcc
-RUSTC = $$(tools/cross.sh)
+RUSTC = env -u MAKEFLAGS $$(tools/cross.sh)
 RUN = qemu-x86_64
 NATIVE = target/native/libbrennigou.a
 endif
