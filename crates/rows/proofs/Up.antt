@@ -119,20 +119,24 @@ module _ {row next room up : List ℤ} {bs₀ bs : List ℕ} {fell : Bool} {v : 
         falls = ef ∙ rw (first, front) (ap not (sym both));
       })
 
-  -- the byte stays
-  stay : {up′ : List ℤ} → v < 8 → getD bs v 0 ≡ testByte row next room v (getD bs v 0) → up′ ≡ raise row next v (getD bs v 0) up → Tested row next room bs₀ bs up′ fell (v + 1)
-  stay {up′} h et eu =
-      let kept : (same (take v bs₀) (take v bs) && eqb (getD bs v 0) (getD bs v 0)) ≡ same (take v bs₀) (take v bs) = and-true (same (take v bs₀) (take v bs)) (eqb (getD bs v 0) (getD bs v 0)) (eq-eqb (getD bs v 0) (getD bs v 0) refl) in
-      subst (λ l. Tested row next room bs₀ l up′ fell (v + 1)) (set-getD bs v 0) (turn (getD bs v 0) h et eu (s .falls ∙ ap not (sym kept)))
+  -- a byte that stays is no fall
+  stayed : fell ≡ not (same (take v bs₀) (take v bs) && eqb (getD bs v 0) (getD bs v 0))
+  stayed = s .falls ∙ ap not (sym (and-true (same (take v bs₀) (take v bs)) (eqb (getD bs v 0) (getD bs v 0)) (eq-eqb (getD bs v 0) (getD bs v 0) refl)))
 
   -- no arc
   pub tested-none : v < 8 → getD bs v 0 ≡ 0 → Tested row next room bs₀ bs up fell (v + 1)
-  tested-none h e = stay h (rw e refl) (rw e refl)
+  tested-none h e = subst (λ l. Tested row next room bs₀ l up fell (v + 1)) (set-getD bs v 0) (turn (getD bs v 0) h (rw e refl) (rw e refl) stayed)
 
-  -- an arc whose child has no numbers
-  module _ (h : v < 8) (f : getD bs v 0 ≡ 0 → ⊥) (lone : far (lanesAt next ((getD bs v 0 - 1) * 17)) ≡ true) where
-    pub tested-lone : Tested row next room bs₀ (set bs v 0) up true (v + 1)
-    tested-lone = turn 0 h (byte (getD bs v 0) f lone) (same-up (getD bs v 0) f lone) (sym (ap not (and-false (same (take v bs₀) (take v bs)) (eqb (getD bs v 0) 0) (ne-eqb (getD bs v 0) 0 f))))
+  -- an arc that stays if ok
+  module _ (h : v < 8) (f : getD bs v 0 ≡ 0 → ⊥) where
+    arc : (ok : Bool) {up′ : List ℤ} → cond ok (getD bs v 0) 0 ≡ testByte row next room v (getD bs v 0) → up′ ≡ raise row next v (getD bs v 0) up
+        → Tested row next room bs₀ (set bs v (cond ok (getD bs v 0) 0)) up′ (cond ok fell true) (v + 1)
+    arc true et eu = turn (getD bs v 0) h et eu stayed
+    arc false et eu = turn 0 h et eu (sym (ap not (and-false (same (take v bs₀) (take v bs)) (eqb (getD bs v 0) 0) (ne-eqb (getD bs v 0) 0 f))))
+
+    -- its child has no numbers
+    pub tested-lone : far (lanesAt next ((getD bs v 0 - 1) * 17)) ≡ true → Tested row next room bs₀ (set bs v 0) up true (v + 1)
+    tested-lone lone = arc false (byte (getD bs v 0) f lone) (same-up (getD bs v 0) f lone)
       where
         byte : (b : ℕ) → (b ≡ 0 → ⊥) → far (lanesAt next ((b - 1) * 17)) ≡ true → 0 ≡ testByte row next room v b
         byte zero g e = refl
@@ -146,32 +150,22 @@ module _ {row next room up : List ℤ} {bs₀ bs : List ℕ} {fell : Bool} {v : 
             let o : suc k - 1 ≡ k = omega arith in
             sym (rw (rw o at e) refl)
 
-  -- an arc whose child has: z, least and ok are what the turn reckons
-  module _ {z least : List ℤ} {ok : Bool} (h : v < 8) (f : getD bs v 0 ≡ 0 → ⊥) (near : far (lanesAt next ((getD bs v 0 - 1) * 17)) ≡ false)
-      (ez : z ≡ arcLanes row next v (getD bs v 0 - 1)) (el : least ≡ leasts up z) (eo : ok ≡ atMost z room) where
-    counts : least ≡ raise row next v (getD bs v 0) up
-    counts = el ∙ rw ez (go (getD bs v 0) f near)
+    -- its child has: z, least and ok are what the turn reckons
+    pub tested-near : {z least : List ℤ} {ok : Bool} → far (lanesAt next ((getD bs v 0 - 1) * 17)) ≡ false → z ≡ arcLanes row next v (getD bs v 0 - 1) → least ≡ leasts up z → ok ≡ atMost z room
+        → Tested row next room bs₀ (set bs v (cond ok (getD bs v 0) 0)) least (cond ok fell true) (v + 1)
+    tested-near {z} {least} {ok} near ez el eo = arc ok (rw (eo, ez) (byte (getD bs v 0) f near)) (el ∙ rw ez (counts (getD bs v 0) f near))
       where
-        go : (b : ℕ) → (b ≡ 0 → ⊥) → far (lanesAt next ((b - 1) * 17)) ≡ false → leasts up (arcLanes row next v (b - 1)) ≡ raise row next v b up
-        go zero g e = absurd (g refl)
-        go (suc k) g e =
+        byte : (b : ℕ) → (b ≡ 0 → ⊥) → far (lanesAt next ((b - 1) * 17)) ≡ false → cond (atMost (arcLanes row next v (b - 1)) room) b 0 ≡ testByte row next room v b
+        byte zero g e = absurd (g refl)
+        byte (suc k) g e =
             let o : suc k - 1 ≡ k = omega arith in
             rw (o, rw o at e) refl
 
-    byte : cond ok (getD bs v 0) 0 ≡ testByte row next room v (getD bs v 0)
-    byte = rw (eo, ez) (go (getD bs v 0) f near)
-      where
-        go : (b : ℕ) → (b ≡ 0 → ⊥) → far (lanesAt next ((b - 1) * 17)) ≡ false → cond (atMost (arcLanes row next v (b - 1)) room) b 0 ≡ testByte row next room v b
-        go zero g e = absurd (g refl)
-        go (suc k) g e =
+        counts : (b : ℕ) → (b ≡ 0 → ⊥) → far (lanesAt next ((b - 1) * 17)) ≡ false → leasts up (arcLanes row next v (b - 1)) ≡ raise row next v b up
+        counts zero g e = absurd (g refl)
+        counts (suc k) g e =
             let o : suc k - 1 ≡ k = omega arith in
             rw (o, rw o at e) refl
-
-    pub tested-stays : ok ≡ true → Tested row next room bs₀ bs least fell (v + 1)
-    tested-stays e = stay h (rw e at byte) counts
-
-    pub tested-falls : ok ≡ false → Tested row next room bs₀ (set bs v 0) least true (v + 1)
-    tested-falls e = turn 0 h (rw e at byte) counts (sym (ap not (and-false (same (take v bs₀) (take v bs)) (eqb (getD bs v 0) 0) (ne-eqb (getD bs v 0) 0 f))))
 
   pub tested-up : 8 ≤ v → up ≡ raiseNode row next 0 bs₀ nowhere
   tested-up h =

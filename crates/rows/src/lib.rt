@@ -1,7 +1,7 @@
 // One layer's numbers from its neighbour's, along any arcs: down to the layer below, up from it with the test of each arc, and a node's cells.
 ghost use mathlib.Core.Path.{_≡_};
 ghost use mathlib.Core.List.{[], _∷_, _++_, map};
-ghost use mathlib.Core.Bool.{not};
+ghost use mathlib.Core.Bool.{true, cond, not};
 ghost use Prim.Native.Nat.{_+_, _*_, _-_, _≤_};
 ghost use lib.ListN.{length, take, drop, replicate};
 ghost use lib.IntN.{pos};
@@ -100,7 +100,7 @@ pub fn zero_cells(cells: &mut [i32])
 }
 
 // A node's cells while only its down numbers are known: all zero where it has none, else 1, each rule's pair, the cost; the rest zero.
-fn put_down(m: usize, down: &[i32], cells: &mut [i32])
+fn rules_down(m: usize, down: &[i32], cells: &mut [i32])
     requires { ⌜ (m ≤ 8) × (length (now down) ≡ 17) × Each (Within 10000000) (now down) × (length (now cells) ≡ 4 * m + 3) ⌝ }
     ensures { λ r. ⌜ now (cells .exit) ≡ nodeLanes m (now (down .entry)) (replicate 17 (pos 0)) ⌝ }
 {
@@ -124,6 +124,18 @@ fn put_down(m: usize, down: &[i32], cells: &mut [i32])
     cells[4 * m + 2] = 0;
 }
 
+// The same; eight rules are the most, and a count that the compiler knows.
+fn put_down(m: usize, down: &[i32], cells: &mut [i32])
+    requires { ⌜ (m ≤ 8) × (length (now down) ≡ 17) × Each (Within 10000000) (now down) × (length (now cells) ≡ 4 * m + 3) ⌝ }
+    ensures { λ r. ⌜ now (cells .exit) ≡ nodeLanes m (now (down .entry)) (replicate 17 (pos 0)) ⌝ }
+{
+    if m == 8 {
+        rules_down(8, down, cells);
+    } else {
+        rules_down(m, down, cells);
+    }
+}
+
 // A layer's down numbers to its cells; the up numbers stand at zero there until they are reckoned.
 pub fn put_downs(m: usize, w: usize, here: &[i32], cells: &mut [i32])
     requires { ⌜ (m ≤ 8) × (w ≤ 16) × Row (now here) × (length (now cells) ≡ w * (4 * m + 3)) ⌝ }
@@ -142,7 +154,7 @@ pub fn put_downs(m: usize, w: usize, here: &[i32], cells: &mut [i32])
 }
 
 // A node's up numbers beside its down numbers; all zero where it lacks one of them.
-fn put_up(m: usize, up: &[i32], cells: &mut [i32])
+fn rules_up(m: usize, up: &[i32], cells: &mut [i32])
     requires { ⌜ (m ≤ 8) × (length (now up) ≡ 17) × Each (Within 10000000) (now up) × HalfNode m (now cells) ⌝ }
     ensures { λ r. ⌜ now (cells .exit) ≡ nodeLanes m (downLanes m (now (cells .entry))) (now (up .entry)) ⌝ }
 {
@@ -163,6 +175,18 @@ fn put_up(m: usize, up: &[i32], cells: &mut [i32])
     }
     let a = up[16];
     cells[4 * m + 2] = a;
+}
+
+// The same; eight rules are a count that the compiler knows.
+fn put_up(m: usize, up: &[i32], cells: &mut [i32])
+    requires { ⌜ (m ≤ 8) × (length (now up) ≡ 17) × Each (Within 10000000) (now up) × HalfNode m (now cells) ⌝ }
+    ensures { λ r. ⌜ now (cells .exit) ≡ nodeLanes m (downLanes m (now (cells .entry))) (now (up .entry)) ⌝ }
+{
+    if m == 8 {
+        rules_up(8, up, cells);
+    } else {
+        rules_up(m, up, cells);
+    }
 }
 
 // The up numbers of a layer beside its down numbers.
@@ -228,7 +252,7 @@ fn room_of(m: usize, free: bool, limit: &[i32], cells: &[i32], room: &mut [i32])
     room[16] = a - cost;
 }
 
-// The rooms of a layer's nodes.
+// The rooms of a layer's nodes; eight rules are a count that the compiler knows.
 fn rooms(m: usize, w: usize, free: bool, limit: &[i32], cells: &[i32], room: &mut [i32])
     requires { ⌜ (m ≤ 8) × (w ≤ 16) × (length (now limit) ≡ 17) × Each (Within 4000000) (now limit) × (length (now cells) ≡ w * (4 * m + 3)) × Each (Within 4000000) (now cells) × (length (now room) ≡ 272) ⌝ }
     ensures { λ r. ⌜ now (room .exit) ≡ flat (map (roomLanes m free (now (limit .entry))) (parted w (4 * m + 3) (now (cells .entry)))) ++ drop (w * 17) (now (room .entry)) ⌝ }
@@ -236,13 +260,25 @@ fn rooms(m: usize, w: usize, free: bool, limit: &[i32], cells: &[i32], room: &mu
     let size = 4 * m + 3;
     let mut j: usize = 0;
     while j < w {
-        room_of(
-            m,
-            free,
-            limit,
-            &cells[j * size..j * size + size],
-            &mut room[j * LANES..j * LANES + LANES],
-        );
+        let at = j * size;
+        let to = j * LANES;
+        if m == 8 {
+            room_of(
+                8,
+                free,
+                limit,
+                &cells[at..at + size],
+                &mut room[to..to + LANES],
+            );
+        } else {
+            room_of(
+                m,
+                free,
+                limit,
+                &cells[at..at + size],
+                &mut room[to..to + LANES],
+            );
+        }
         j += 1;
     }
 }
@@ -251,6 +287,20 @@ fn rooms(m: usize, w: usize, free: bool, limit: &[i32], cells: &[i32], room: &mu
 struct Raised {
     up: [i32; 17],
     fell: bool,
+}
+
+// An arc's byte after its test: zero if it falls.
+fn kept(stays: bool, b: u8) -> u8
+    ensures { λ r. ⌜ r ≡ cond stays b 0 ⌝ }
+{
+    if stays { b } else { 0 }
+}
+
+// Whether an arc fell, after one more test.
+fn fallen(stays: bool, fell: bool) -> bool
+    ensures { λ r. ⌜ r ≡ cond stays fell true ⌝ }
+{
+    if stays { fell } else { true }
 }
 
 // A node's up numbers over its arcs; an arc falls if it leads to no number or brings more than the room.
@@ -264,20 +314,18 @@ fn raise_node(row: &[i32], next: &[i32], room: [i32; 17], arcs: &mut [u8]) -> Ra
     let mut fell = false;
     let mut v: usize = 0;
     while v < 8 {
-        let b = arcs[v] as usize;
+        let b = arcs[v];
         if b != 0 {
             let mut stays = false;
-            let to = (b - 1) * LANES;
+            let to = (b as usize - 1) * LANES;
             if next[to + 16] != FAR {
                 let z = lanes::sum_of(lanes::lanes_at(next, to), lanes::lanes_at(row, v * LANES));
                 let least = lanes::least_of(up, z);
                 up = least;
                 stays = lanes::at_most(z, room);
             }
-            if !stays {
-                arcs[v] = 0;
-                fell = true;
-            }
+            arcs[v] = kept(stays, b);
+            fell = fallen(stays, fell);
         }
         v += 1;
     }

@@ -1,15 +1,13 @@
 -- `raise_node` meets its contract: a turn counts and tests one arc.
-use mathlib.Core.Bool.{true≢false}
 use mathlib.Core.Logic.{⊎-elim}
-use mathlib.Core.Path.{sym, _∙_}
+use mathlib.Core.Path.{_∙_}
 use Prim.Native.Nat.{_-_, _*_}
 use native.Mathlib.Omega.{arith}
-use borrow.Author.Tests.{not-true, not-false}
 use denote.Ref.{now}
 use lib.ListN.{getD}
 use Rattle.lent.specs.Lanes.{lanesAt, sums}
 use Rattle.rows.proofs.Lanes.{wide, each-lanes, far-at-yes, far-at-no}
-use Rattle.rows.proofs.Up.{Tested, tested-start, tested-byte, tested-none, tested-lone, tested-stays, tested-falls, tested-up, tested-bytes, tested-fell}
+use Rattle.rows.proofs.Up.{Tested, tested-start, tested-byte, tested-none, tested-lone, tested-near, tested-up, tested-bytes, tested-fell}
 use borrow.Author.Needs.{needs}
 use Rattle.rows.proofs.raise_node.Statement.{statement}
 use Rattle.rows.proofs.raise_node.Tie as tie
@@ -26,8 +24,8 @@ loop-holds c = let a = c .before .args in tested-start (now (a .row)) (now (a .n
 slice-read-b : tie.Need-slice-read-b Inv-loop μ-loop
 slice-read-b c = omega (arith, c .before .before .loop .inv .long, c .before .before .before .before .pre .2)
 
-cast-b : tie.Need-cast-b Inv-loop μ-loop
-cast-b c = omega (arith, tested-byte (c .before .before .loop .inv) (c .before .before .before .before .pre .2) (c .before .before .before .before .pre .3))
+cast-to : tie.Need-cast-to Inv-loop μ-loop
+cast-to c = omega (arith, tested-byte (c .before .before .before .loop .inv) (c .before .before .before .before .before .pre .2) (c .before .before .before .before .before .pre .3))
 
 sub-to : tie.Need-sub-to Inv-loop μ-loop
 sub-to c = search needs
@@ -68,8 +66,14 @@ least-of-requires c κs = tt
 at-most-requires : tie.Need-at-most-requires Inv-loop μ-loop
 at-most-requires c κs = tt
 
+kept-requires : tie.Need-kept-requires Inv-loop μ-loop
+kept-requires c κs = tt
+
 slice-write-arcs : tie.Need-slice-write-arcs Inv-loop μ-loop
 slice-write-arcs c = omega (arith, c .before .before .before .before .before .before .loop .inv .long, c .before .before .before .before .before .before .before .before .pre .2)
+
+fallen-requires : tie.Need-fallen-requires Inv-loop μ-loop
+fallen-requires c κs = tt
 
 add-v : tie.Need-add-v Inv-loop μ-loop
 add-v c = search needs
@@ -85,18 +89,11 @@ loop-again c =
     let eight = c .before .before .before .before .before .pre .2 in
     let to = (getD (l .arcs) (l .v) 0 - 1) * 17 in
     ⊎-elim
-    (λ w.
-    ⊎-elim
-    (λ y. rw (w .4, w .5, y .6, w .6) (tested-falls (l .inv) eight t (w .0 .taken) (far-at-no next to (y .0 .taken)) (y .3 .ensures ∙ λ i. sums (y .1 .ensures i) (y .2 .ensures i)) (y .4 .ensures) (y .5 .ensures) (sym (y .7) ∙ not-true _ (w .3 .taken))))
-    (λ y. rw (w .4, w .5, y .1, w .6) (tested-lone (l .inv) eight t (w .0 .taken) (far-at-yes next to (w .1 .given) (y .0 .left))))
-    (w .2 .came))
-    (⊎-elim
-    (λ w.
-    ⊎-elim
-    (λ y. rw (w .4, w .5, y .6, w .6) (tested-stays (l .inv) eight t (w .0 .taken) (far-at-no next to (y .0 .taken)) (y .3 .ensures ∙ λ i. sums (y .1 .ensures i) (y .2 .ensures i)) (y .4 .ensures) (y .5 .ensures) (sym (y .7) ∙ not-false _ (w .3 .left))))
-    (λ y. absurd (true≢false (sym (not-false _ (w .3 .left)) ∙ y .2)))
-    (w .2 .came))
-    (λ w. rw (w .1, w .2, w .3) (tested-none (l .inv) eight t (w .0 .left))))
+    (λ w. rw (w .5, w .6, w .7, w .3 .ensures, w .4 .ensures) (⊎-elim
+    (λ y. rw (y .6, y .7) (tested-near (l .inv) eight t (w .0 .taken) (far-at-no next to (y .0 .taken)) (y .3 .ensures ∙ λ i. sums (y .1 .ensures i) (y .2 .ensures i)) (y .4 .ensures) (y .5 .ensures)))
+    (λ y. rw (y .1, y .2) (tested-lone (l .inv) eight t (w .0 .taken) (far-at-yes next to (w .1 .given) (y .0 .left))))
+    (w .2 .came)))
+    (λ w. rw (w .1, w .2, w .3) (tested-none (l .inv) eight t (w .0 .left)))
     (c .if1 .came)
 
 same-length : tie.Need-same-length Inv-loop μ-loop
@@ -116,7 +113,7 @@ raise-node-spec =
     μ-loop
     loop-holds
     slice-read-b
-    cast-b
+    cast-to
     sub-to
     mul-to
     add-if2
@@ -128,7 +125,9 @@ raise-node-spec =
     sum-of-requires
     least-of-requires
     at-most-requires
+    kept-requires
     slice-write-arcs
+    fallen-requires
     add-v
     loop-less
     loop-again
