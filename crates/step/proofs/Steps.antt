@@ -1,28 +1,45 @@
 -- What does a loop hold that lays a list element by element, and what do the tests of a step say?
 use mathlib.Core.Path.{_≡_, refl, sym, ap, _∙_}
 use mathlib.Core.List.{List, [], _∷_, _++_, append-assoc, append-nil}
-use mathlib.Core.Bool.{Bool, true, false, _&&_}
-use Prim.Native.Nat.{ℕ, suc, _+_, _*_, _-_, _≤_, _<_}
-use native.Mathlib.Nat.{suc-mul, zero-add, mul-le-mul, mul-le-mul-right}
+use mathlib.Core.Bool.{Bool, true, false, not, _&&_, cond}
+use Prim.Native.Nat.{ℕ, zero, suc, _+_, _*_, _/_, _^_, _≤_, _<_}
+use native.Mathlib.Nat.{suc-mul, zero-add, mul-le-mul-right, mod-lt}
 use native.Mathlib.Numerals.{add-one}
 use native.Mathlib.Omega.{arith}
 use borrow.Author.Tests.{lt-ltb, le-ltb}
-use lib.Dec.{T, leb, leb→le, le→leb}
-use lib.ListN.{length, getD, set, take, drop, replicate, length-append, length-replicate, length-drop}
-use lib.Seq.{paste, paste-zero, paste-suc, length-paste, take-suc, take-all, length-take-le, drop-length, getD-take, getD-drop}
-use lib.IntN.{ℤ, pos, _+ℤ_}
+use lib.Dec.{T, leb}
+use lib.ListN.{length, getD, set, take, drop, replicate, length-append, length-replicate, length-drop, length-set}
+use lib.Seq.{paste, paste-zero, paste-suc, length-paste, take-suc, take-all, take-at, length-take-le, drop-length, getD-take, getD-drop, set-append-left, take-set-lt, drop-set-lt}
+use lib.IntN.{ℤ, pos, _+ℤ_, _-ℤ_}
 use lib.Signed.{leZ, ltZ}
 use mir.Syntax.{w32}
 use mir.Val.{SFits}
 use mir.Facts.{toZ-ofZ}
-use Rattle.laws.specs.Z.{Within, zarith, back, back-is, sum32, sum-within}
+use Rattle.laws.specs.Z.{Within, zarith, parts, dif, back, back-is, sum-within, widen, fits32}
 use Rattle.laws.specs.Lists.{gather, from, padded}
-use Rattle.laws.proofs.Lists.{and-false, length-from, from-more}
-use Rattle.laws.proofs.Filled.{padded-more, padded-full, length-rows, gather-more}
-use Rattle.lanes.proofs.Laws.{length-zipped, zipped-at}
+use Rattle.laws.proofs.Lists.{and-false, length-from, from-more, cond-first, cond-second}
+use Rattle.laws.proofs.Each.{Each, each-take, each-drop}
+use Rattle.laws.proofs.Filled.{padded-more, padded-full, length-rows, gather-more, take-within}
+use Rattle.lanes.proofs.Laws.{length-zipped, zipped-at, each-sums}
+use Rattle.lent.specs.Lanes.{sums}
 use Rattle.slot.specs.Rows.{laneOf, lanesOf}
-use Rattle.slot.proofs.Laws.{lanes-long, lanes-at}
-use Rattle.step.specs.Steps.{withShares, laying}
+use Rattle.slot.proofs.Laws.{lane-within, lanes-long, lanes-at}
+use Rattle.step.specs.Steps.{coefsIn, valuesIn, totalsAt, hereAt, laying}
+
+-- ---- what is pasted leaves what stands before it
+module _ {A : Type 0} (d : List A) (at : ℕ) (s : List A) (n : ℕ) where
+  paste-before : (i : ℕ) (x : A) → i < at → at ≤ length d → set (paste d at s n) i x ≡ paste (set d i x) at s n
+  paste-before i x h room =
+      let first : i < length (take at d) = omega (arith, length-take-le at d room) in
+      ap (λ l. set l i x) (append-assoc (take at d) (take n s) (drop (at + n) d))
+      ∙ set-append-left (take at d) (take n s ++ drop (at + n) d) i x first
+      ∙ (λ t. sym (take-set-lt at d i x h) t ++ (take n s ++ sym (drop-set-lt (at + n) d i x (omega arith)) t))
+      ∙ sym (append-assoc (take at (set d i x)) (take n s) (drop (at + n) (set d i x)))
+
+  pub paste-after : (a k : ℕ) → a + k ≤ at → at ≤ length d → take k (drop a (paste d at s n)) ≡ take k (drop a d)
+  paste-after a k h room =
+      let same : take at (paste d at s n) ≡ take at d = ap (take at) (append-assoc (take at d) (take n s) (drop (at + n) d)) ∙ take-at (take at d) (take n s ++ drop (at + n) d) at (length-take-le at d room) in
+      sym (take-within a k at (paste d at s n) h) ∙ ap (λ l. take k (drop a l)) same ∙ take-within a k at d h
 
 -- ---- a loop that lays the elements of s over d, from a place on, one in a turn: c is what it has after k of them
 pub record Copied {A : Type 0} (d : List A) (at : ℕ) (s c : List A) (k : ℕ) : Type 0 where
@@ -45,6 +62,10 @@ module _ {A : Type 0} {d : List A} {at : ℕ} {s : List A} where
       is = rw (l .is, e, add-one) (paste-suc d at s k z (omega (arith, l .room)) h);
     }
 
+    -- an element set before the place
+    pub copied-before : (i : ℕ) (x : A) → i < at → Copied (set d i x) at s (set c i x) k
+    copied-before i x h = record { done = l .done; room = omega (arith, l .room, length-set d i x); is = rw (l .is) (paste-before d at s k i x h (omega (arith, l .room))) }
+
     pub copied-end : length s ≤ k → c ≡ paste d at s (length s)
     copied-end h =
         let o : k ≡ length s = omega (arith, l .done) in
@@ -56,60 +77,51 @@ all-filled z d =
     let n = length d in
     rw (length-replicate n z, zero-add n, drop-length d, take-all n (replicate n z) (omega (arith, length-replicate n z))) (append-nil (replicate n z))
 
--- ---- the place of a node's cost up: node b - 1 of the nodes from `next` on
-module _ (m b next : ℕ) (some : b ≡ 0 → ⊥) where
-  -- it is small
-  pub cost-small : m ≤ 8 → next + b ≤ 400 → (next + b - 1) * (4 * m + 3) ≤ 14000
-  cost-small few low =
-      let wide : 4 * m + 3 ≤ 35 = omega arith in
-      let less : next + b - 1 ≤ 400 = omega arith in
-      omega (arith, mul-le-mul less wide)
-
-  -- it is there
-  pub cost-there : (n : ℕ) → (next + b) * (4 * m + 3) ≤ n → (next + b - 1) * (4 * m + 3) + 4 * m + 2 < n
-  cost-there n room =
-      let k = 4 * m + 3 in
-      let o : next + b ≡ suc (next + b - 1) = omega arith in
-      omega (arith, suc-mul (next + b - 1) k, ap (λ (x : ℕ). x * k) o)
-
 -- ---- one rule's test: the totals with its low up and its high up
 abbrev pub keepsAt : List ℤ → List ℤ → List ℤ → ℕ → List ℤ → ℕ → Bool
 keepsAt lb ub cells at totals r =
     leZ (getD totals r (pos 0) +ℤ getD cells (at + 4 * r + 3) (pos 0)) (getD ub r (pos 0)) && leZ (getD lb r (pos 0)) (getD totals r (pos 0) +ℤ getD cells (at + 4 * r + 4) (pos 0))
 
--- the sum of two i32
-module _ {t x : ℤ} {m n : ℕ} (h : Within m t) (k : Within n x) (f : T (leb (m + n) 2147483647)) where
-  both : back t +ℤ back x ≡ t +ℤ x
-  both =
-      let most = leb→le (m + n) 2147483647 f in
-      λ i. back-is h (le→leb m 2147483647 (omega arith)) i +ℤ back-is k (le→leb n 2147483647 (omega arith)) i
+-- what an operation makes of two i32, where that is one
+module _ (f : ℤ → ℤ → ℤ) {t x : ℤ} {m n k : ℕ} (h : Within m t) (l : Within n x) (w : Within k (f t x)) (a : T (leb m 2147483647)) (b : T (leb n 2147483647)) (c : T (leb k 2147483647)) where
+  both : f (back t) (back x) ≡ f t x
+  both = λ i. f (back-is h a i) (back-is l b i)
 
-  pub both-fits : SFits w32 (back t +ℤ back x)
-  both-fits = rw both (sum32 h k f)
+  pub both-fits : SFits w32 (f (back t) (back x))
+  both-fits = rw both (fits32 (widen c w))
 
-  pub both-is : back (back t +ℤ back x) ≡ t +ℤ x
-  both-is = rw both (back-is (sum-within h k) f)
+  pub both-is : back (f (back t) (back x)) ≡ f t x
+  both-is = rw both (back-is w c)
+
+-- at most is not above
+pub le-not : (a b : ℤ) (t : Bool) → ltZ a b ≡ t → leZ b a ≡ not t
+le-not a b true e = omega (zarith, e)
+le-not a b false e = omega (zarith, e)
+
+-- a difference in range
+pub less-within : {t x : ℤ} {m n : ℕ} → Within m t → Within n x → Within (m + n) (t -ℤ x)
+less-within {t} {x} h l = record { size = omega (arith, dif t x, parts t, parts x, parts (t -ℤ x), h .size, l .size) }
 
 module _ {t low high least most : ℤ} (h : Within 1000000 t) (l : Within 4000000 low) (g : Within 4000000 high) (a : SFits w32 least) (b : SFits w32 most) where
   -- "any total at low up is above ub"
   pub above : ltZ (back most) (back (back t +ℤ back low)) ≡ true → (leZ (t +ℤ low) most && leZ least (t +ℤ high)) ≡ false
   above e =
-      let f : ltZ most (t +ℤ low) ≡ true = rw (toZ-ofZ b, both-is h l tt) at e in
+      let f : ltZ most (t +ℤ low) ≡ true = rw (toZ-ofZ b, both-is _+ℤ_ h l (sum-within h l) tt tt tt) at e in
       let no : leZ (t +ℤ low) most ≡ false = omega (zarith, f) in
       rw no refl
 
   -- "any total at high up is below lb"
   pub below : ltZ (back (back t +ℤ back high)) (back least) ≡ true → (leZ (t +ℤ low) most && leZ least (t +ℤ high)) ≡ false
   below e =
-      let f : ltZ (t +ℤ high) least ≡ true = rw (toZ-ofZ a, both-is h g tt) at e in
+      let f : ltZ (t +ℤ high) least ≡ true = rw (toZ-ofZ a, both-is _+ℤ_ h g (sum-within h g) tt tt tt) at e in
       let no : leZ least (t +ℤ high) ≡ false = omega (zarith, f) in
       and-false (leZ (t +ℤ low) most) (leZ least (t +ℤ high)) no
 
   -- neither
   pub inside : ltZ (back most) (back (back t +ℤ back low)) ≡ false → ltZ (back (back t +ℤ back high)) (back least) ≡ false → (leZ (t +ℤ low) most && leZ least (t +ℤ high)) ≡ true
   inside e f =
-      let p : ltZ most (t +ℤ low) ≡ false = rw (toZ-ofZ b, both-is h l tt) at e in
-      let q : ltZ (t +ℤ high) least ≡ false = rw (toZ-ofZ a, both-is h g tt) at f in
+      let p : ltZ most (t +ℤ low) ≡ false = rw (toZ-ofZ b, both-is _+ℤ_ h l (sum-within h l) tt tt tt) at e in
+      let q : ltZ (t +ℤ high) least ≡ false = rw (toZ-ofZ a, both-is _+ℤ_ h g (sum-within h g) tt tt tt) at f in
       let yes : leZ (t +ℤ low) most ≡ true = omega (zarith, p) in
       let and : leZ least (t +ℤ high) ≡ true = omega (zarith, q) in
       rw (yes, and) refl
@@ -125,31 +137,72 @@ module _ {A : Type 0} (n : ℕ) (z : A) (s : List A) where
   pub table-all : (k : ℕ) → length s ≡ n → n ≤ k → padded n z (take k s) ≡ s
   table-all k long h = ap (padded n z) (take-all k s (omega arith)) ∙ padded-full n z s long
 
--- ---- eight of a table's entries, from place i * 8 on
-module _ {A : Type 0} (l : List A) (i : ℕ) (few : i < 24) (long : length l ≡ 192) where
-  eight-long : length (take 8 (drop (i * 8) l)) ≡ 8
-  eight-long = length-take-le 8 (drop (i * 8) l) (omega (arith, length-drop (i * 8) l))
+-- ---- k of a list's elements, from place a on
+module _ {A : Type 0} (k a : ℕ) (l : List A) where
+  part-long : a + k ≤ length l → length (take k (drop a l)) ≡ k
+  part-long h = length-take-le k (drop a l) (omega (arith, length-drop a l))
 
-  eight-at : (z : A) (r : ℕ) → r < 8 → getD (take 8 (drop (i * 8) l)) r z ≡ getD l (i * 8 + r) z
-  eight-at z r h = getD-take 8 (drop (i * 8) l) r z h ∙ getD-drop (i * 8) l r z
+  pub part-at : (z : A) (r : ℕ) → r < k → getD (take k (drop a l)) r z ≡ getD l (a + r) z
+  part-at z r h = getD-take k (drop a l) r z h ∙ getD-drop a l r z
 
--- the totals with the shares of a step
-module _ (coefs : List ℤ) (values : List ℕ) (i v : ℕ) (totals : List ℤ) (few : i < 24) (a : length coefs ≡ 192) (b : length values ≡ 192) (c : length totals ≡ 8) where
-  lanes : length (lanesOf (take 8 (drop (i * 8) coefs)) (take 8 (drop (i * 8) values)) v) ≡ 8
-  lanes = lanes-long (take 8 (drop (i * 8) coefs)) (take 8 (drop (i * 8) values)) v (eight-long coefs i few a ∙ sym (eight-long values i few b)) ∙ eight-long coefs i few a
+-- ---- the totals behind a step
+module _ (coefs : List ℤ) (values : List ℕ) (i v : ℕ) (trail : List ℤ) where
+  -- the parts of the slot, and the totals before it
+  abbrev cs : List ℤ
+  cs = take 8 (drop (i * 8) coefs)
 
-  pub shares-long : length (withShares coefs values i v totals) ≡ 8
-  shares-long = length-zipped _+ℤ_ totals (lanesOf (take 8 (drop (i * 8) coefs)) (take 8 (drop (i * 8) values)) v) (c ∙ sym lanes) ∙ c
+  abbrev bs : List ℕ
+  bs = take 8 (drop (i * 8) values)
 
-  pub share-at : (r : ℕ) → r < 8 → getD (withShares coefs values i v totals) r (pos 0) ≡ getD totals r (pos 0) +ℤ laneOf (getD coefs (i * 8 + r) (pos 0)) (getD values (i * 8 + r) 0) v
-  share-at r h =
-      let cs = take 8 (drop (i * 8) coefs) in
-      let bs = take 8 (drop (i * 8) values) in
-      let one = eight-long coefs i few a in
-      let two = eight-long values i few b in
-      zipped-at _+ℤ_ totals (lanesOf cs bs v) r (omega arith) (omega (arith, lanes))
-      ∙ (λ t. getD totals r (pos 0) +ℤ lanes-at cs bs v r (omega arith) (one ∙ sym two) t)
-      ∙ (λ t. getD totals r (pos 0) +ℤ laneOf (eight-at coefs i few a (pos 0) r h t) (eight-at values i few b 0 r h t) v)
+  abbrev ts : List ℤ
+  ts = totalsAt i trail
+
+  module _ (few : i < 24) where
+    here-is : hereAt coefs values i v trail ≡ sums ts (lanesOf cs bs v)
+    here-is = rw (take-within (i * 8) 8 192 coefs (omega arith), take-within (i * 8) 8 192 values (omega arith)) refl
+
+    module _ (a : length coefs ≡ 232) (b : length values ≡ 216) (c : length trail ≡ 225) where
+      coefs-eight : length cs ≡ 8
+      coefs-eight = part-long 8 (i * 8) coefs (omega arith)
+
+      values-eight : length bs ≡ 8
+      values-eight = part-long 8 (i * 8) values (omega arith)
+
+      totals-eight : length ts ≡ 8
+      totals-eight = part-long 8 (i * 9) trail (omega arith)
+
+      lanes-eight : length (lanesOf cs bs v) ≡ 8
+      lanes-eight = lanes-long cs bs v (coefs-eight ∙ sym values-eight) ∙ coefs-eight
+
+      pub here-long : length (hereAt coefs values i v trail) ≡ 8
+      here-long = ap length here-is ∙ length-zipped _+ℤ_ ts (lanesOf cs bs v) (totals-eight ∙ sym lanes-eight) ∙ totals-eight
+
+      pub here-at : (r : ℕ) → r < 8 → getD (hereAt coefs values i v trail) r (pos 0) ≡ getD trail (i * 9 + r) (pos 0) +ℤ laneOf (getD coefs (i * 8 + r) (pos 0)) (getD values (i * 8 + r) 0) v
+      here-at r h =
+          ap (λ l. getD l r (pos 0)) here-is
+          ∙ zipped-at _+ℤ_ ts (lanesOf cs bs v) r (omega (arith, totals-eight)) (omega (arith, lanes-eight))
+          ∙ (λ t. getD ts r (pos 0) +ℤ lanes-at cs bs v r (omega (arith, coefs-eight)) (coefs-eight ∙ sym values-eight) t)
+          ∙ (λ t. part-at 8 (i * 9) trail (pos 0) r h t +ℤ laneOf (part-at 8 (i * 8) coefs (pos 0) r h t) (part-at 8 (i * 8) values 0 r h t) v)
+
+-- lanes of coefficients within 1,000
+lanes-within : (cs : List ℤ) (bs : List ℕ) (v : ℕ) → v < 8 → Each (Within 1000) cs → Each (Within 7001) (lanesOf cs bs v)
+lanes-within [] bs v h e = tt
+lanes-within (c ∷ cs) [] v h e = tt
+lanes-within (c ∷ cs) (b ∷ bs) v h e = (lane-within (e .0) h (mod-lt (b / 2 ^ v) (omega arith)), lanes-within cs bs v h (e .1))
+
+-- the totals grow by no more
+pub here-within : (m : ℕ) (coefs : List ℤ) (values : List ℕ) (i v : ℕ) (trail : List ℤ) → v < 8 → Each (Within 1000) (coefsIn coefs) → Each (Within m) (totalsAt i trail) → Each (Within (m + 7001)) (hereAt coefs values i v trail)
+here-within m coefs values i v trail h e f =
+    let cs = take 8 (drop (i * 8) (coefsIn coefs)) in
+    let bs = take 8 (drop (i * 8) (valuesIn values)) in
+    each-sums m 7001 (totalsAt i trail) (lanesOf cs bs v) f (lanes-within cs bs v h (each-take (Within 1000) 8 (drop (i * 8) (coefsIn coefs)) (each-drop (Within 1000) (i * 8) (coefsIn coefs) e)))
+
+-- ---- whether the walk goes on, and the trail where it does and where it does not
+pub goes-not : {A : Type 0} (t : Bool) (a b : A) → t ≡ false → (false ≡ t) × (b ≡ cond t a b)
+goes-not t a b e = (sym e, sym (cond-second t a b e))
+
+pub goes-so : {A : Type 0} (t : Bool) (a b : A) → t ≡ true → (true ≡ t) × (a ≡ cond t a b)
+goes-so t a b e = (sym e, sym (cond-first t a b e))
 
 -- ---- a plan that comes by
 -- the place of the next one, below the room for all
@@ -163,6 +216,13 @@ module _ (n cap : ℕ) (page : List ℕ) (seen : ℕ) (plan : List ℕ) {later :
 
   pub put-full : seen ≤ cap → cap ≤ seen → later ≡ page → record { page = later; seen = seen + 1 } ≡ laying n cap (record { page = page; seen = seen }) plan
   put-full k h e = rw (le-ltb seen cap h, le-ltb cap seen k, e, add-one) refl
+
+-- the first of an array that fills up
+pub padded-take : {A : Type 0} (k n : ℕ) (z : A) (l : List A) → k ≤ n → take k (padded n z l) ≡ padded k z l
+padded-take zero n z l h = refl
+padded-take (suc k) zero z l h = absurd (omega arith)
+padded-take (suc k) (suc n) z [] h = ap (λ r. z ∷ r) (padded-take k n z [] (omega arith))
+padded-take (suc k) (suc n) z (x ∷ l) h = ap (λ r. x ∷ r) (padded-take k n z l (omega arith))
 
 -- ---- a table of rows of eight: i rows are laid, and r entries of the next
 module _ {A : Type 0} (n : ℕ) (z : A) (f : ℕ → List A) (wide : (i : ℕ) → length (f i) ≡ 8) (i : ℕ) where

@@ -1,16 +1,30 @@
 // One step of the walk along any arcs, and the page that its plans are laid on.
 ghost use mathlib.Core.Path.{_≡_};
-ghost use mathlib.Core.List.{_++_};
-ghost use mathlib.Core.Bool.{_&&_, cond};
+ghost use mathlib.Core.List.{[], _∷_, _++_};
+ghost use mathlib.Core.Bool.{not, cond};
 ghost use Prim.Native.Nat.{suc, _+_, _*_, _-_, _≤_, _<_};
 ghost use lib.Dec.{eqb, ltb};
-ghost use lib.ListN.{length, take, drop, replicate};
+ghost use lib.ListN.{length, getD, take, replicate};
+ghost use lib.Seq.{paste};
 ghost use lib.IntN.{pos};
 ghost use Rattle.laws.specs.Z.{Within};
 ghost use Rattle.laws.proofs.Each.{Each};
-ghost use Rattle.step.specs.Steps.{firstOf, laying, isOpen, mayKeep, withShares, coefTable, valueTable};
+ghost use Rattle.meaning.specs.Plan.{allows};
+ghost use Rattle.step.specs.Steps.{laying, mayKeep, coefTable, valueTable, coefsIn, weightsIn, leastsIn, mostsIn, valuesIn, setsIn, totalsAt, budgetAt, hereAt, goesOn, trod};
 
 // ---- one step
+// Behind the parts of every slot and rule: where the weights begin in the one table, and the step sets in the other.
+const WEIGHTS: usize = 192;
+
+// Where the least totals begin.
+const LEASTS: usize = 216;
+
+// Where the greatest totals begin.
+const MOSTS: usize = 224;
+
+// A level of the trail: eight totals and what is left of the ceiling.
+const LEVEL: usize = 9;
+
 // A byte as a step.
 pub fn step(b: u8) -> usize
     ensures { λ r. ⌜ r ≡ b ⌝ }
@@ -18,67 +32,38 @@ pub fn step(b: u8) -> usize
     b as usize
 }
 
-// Where the steps of slot i begin: at the start's own, if the steps so far are.
-pub fn first_step(plan: &[u8; 24], i: usize, own: bool) -> usize
-    requires { ⌜ i < 24 ⌝ }
-    ensures { λ r. ⌜ r ≡ firstOf own (drop i (now (plan .entry))) ⌝ }
+// A byte that leads to a node.
+pub fn is_arc(b: usize) -> bool
+    ensures { λ r. ⌜ r ≡ not (eqb b 0) ⌝ }
 {
-    if own {
-        return step(plan[i]);
-    }
-    0
+    b != 0
 }
 
-// The steps with step v are the start's own.
-pub fn is_own(own: bool, v: usize, first: usize) -> bool
-    ensures { λ r. ⌜ r ≡ (own && eqb v first) ⌝ }
+// The slot's set, as it stands behind the values, has the step.
+fn allows(set: u32, v: usize) -> bool
+    requires { ⌜ v < 8 ⌝ }
+    ensures { λ r. ⌜ r ≡ allows 8 set v ⌝ }
 {
-    if own {
-        return v == first;
-    }
-    false
-}
-
-// An arc of a step that the slot allows, to a node from which the sink is within the budget. The next layer's nodes begin at `next`.
-pub fn is_open(
-    m: usize,
-    set: u16,
-    v: usize,
-    b: usize,
-    next: usize,
-    cells: &[i32],
-    budget: i32,
-) -> bool
-    requires { ⌜ (m ≤ 8) × (next + b ≤ 400) × ((next + b) * (4 * m + 3) ≤ length (now cells)) ⌝ }
-    ensures { λ r. ⌜ r ≡ isOpen m set v b next (now (cells .entry)) budget ⌝ }
-{
-    if b == 0 {
-        return false;
-    }
-    if !problem::allows(set, v) {
-        return false;
-    }
-    let least = cells[(next + b - 1) * (4 * m + 3) + 4 * m + 2];
-    least <= budget
+    (set >> v) % 2 == 1
 }
 
 // The totals behind step v of slot i.
-pub fn with_shares<'a>(
-    coefs: &'a [i32; 192],
-    values: &'a [u32; 192],
+fn with_shares<'a>(
+    coefs: &'a [i32; 232],
+    values: &'a [u32; 216],
     i: usize,
     v: usize,
-    totals: &[i32; 8],
+    trail: &[i32; 225],
 ) -> [i32; 8]
-    requires { ⌜ (i < 24) × (v < 8) × Each (Within 1000) (now coefs) × Each (Within 1000000) (now totals) × (length (now coefs) ≡ 192) × (length (now values) ≡ 192) × (length (now totals) ≡ 8) ⌝ }
-    ensures { λ r. ⌜ r ≡ withShares (now (coefs .entry)) (now (values .entry)) i v (now (totals .entry)) ⌝ }
+    requires { ⌜ (i < 24) × (v < 8) × Each (Within 1000) (coefsIn (now coefs)) × Each (Within 1000000) (totalsAt i (now trail)) × (length (now coefs) ≡ 232) × (length (now values) ≡ 216) × (length (now trail) ≡ 225) ⌝ }
+    ensures { λ r. ⌜ r ≡ hereAt (now (coefs .entry)) (now (values .entry)) i v (now (trail .entry)) ⌝ }
 {
     let mut x = [0i32; 8];
     let mut r: usize = 0;
     while r < 8 {
         let coef = coefs[i * 8 + r];
         let value = values[i * 8 + r];
-        let t = totals[r];
+        let t = trail[i * LEVEL + r];
         x[r] = t + slot::lane(coef, value, v);
         r += 1;
     }
@@ -86,23 +71,16 @@ pub fn with_shares<'a>(
 }
 
 // Whether what the node whose cells begin at `at` can still add leaves every rule kept.
-pub fn may_keep<'a>(
-    m: usize,
-    lb: &'a [i32; 8],
-    ub: &'a [i32; 8],
-    cells: &[i32],
-    at: usize,
-    totals: &[i32; 8],
-) -> bool
-    requires { ⌜ (m ≤ 8) × (at + 4 * m + 3 ≤ length (now cells)) × Each (Within 4000000) (now cells) × Each (Within 1000000) (now totals) ⌝ }
-    ensures { λ r. ⌜ r ≡ mayKeep m (now (lb .entry)) (now (ub .entry)) (now (cells .entry)) at (now (totals .entry)) ⌝ }
+fn may_keep<'a>(m: usize, coefs: &'a [i32; 232], cells: &[i32], at: usize, totals: [i32; 8]) -> bool
+    requires { ⌜ (m ≤ 8) × (at + 4 * m + 3 ≤ length (now cells)) × Each (Within 4000000) (now cells) × Each (Within 1000000) totals × (length (now coefs) ≡ 232) ⌝ }
+    ensures { λ r. ⌜ r ≡ mayKeep m (leastsIn (now (coefs .entry))) (mostsIn (now (coefs .entry))) (now (cells .entry)) at totals ⌝ }
 {
     let mut r: usize = 0;
     while r < m {
         let low = cells[at + 4 * r + 3];
         let high = cells[at + 4 * r + 4];
-        let least = lb[r];
-        let most = ub[r];
+        let least = coefs[LEASTS + r];
+        let most = coefs[MOSTS + r];
         let t = totals[r];
         if most < t + low {
             return false;
@@ -115,33 +93,126 @@ pub fn may_keep<'a>(
     true
 }
 
-// What the rules count in every slot, eight to a slot, into two tables that are zero.
+// The same; eight rules are the most, and a count that the compiler knows.
+fn may_keep_all<'a>(
+    m: usize,
+    coefs: &'a [i32; 232],
+    cells: &[i32],
+    at: usize,
+    totals: [i32; 8],
+) -> bool
+    requires { ⌜ (m ≤ 8) × (at + 4 * m + 3 ≤ length (now cells)) × Each (Within 4000000) (now cells) × Each (Within 1000000) totals × (length (now coefs) ≡ 232) ⌝ }
+    ensures { λ r. ⌜ r ≡ mayKeep m (leastsIn (now (coefs .entry))) (mostsIn (now (coefs .entry))) (now (cells .entry)) at totals ⌝ }
+{
+    if m == 8 {
+        may_keep(8, coefs, cells, at, totals)
+    } else {
+        may_keep(m, coefs, cells, at, totals)
+    }
+}
+
+// A level of the trail.
+fn put_level(trail: &mut [i32; 225], at: usize, totals: [i32; 8], rest: i32)
+    requires { ⌜ (at + 9 ≤ 225) × (length (now trail) ≡ 225) ⌝ }
+    ensures { λ r. ⌜ now (trail .exit) ≡ paste (now (trail .entry)) at (totals ++ (rest ∷ [])) 9 ⌝ }
+{
+    let mut r: usize = 0;
+    while r < 8 {
+        let t = totals[r];
+        trail[at + r] = t;
+        r += 1;
+    }
+    trail[at + 8] = rest;
+}
+
+// Whether the walk goes on by step v of slot i to the node whose cells begin at `at`: the slot allows it, the sink is within what is
+// left of the ceiling, and every rule may still be kept. If so, the trail gets the level behind the step.
+pub fn goes<'a>(
+    m: usize,
+    coefs: &'a [i32; 232],
+    values: &'a [u32; 216],
+    i: usize,
+    v: usize,
+    cells: &[i32],
+    at: usize,
+    trail: &mut [i32; 225],
+) -> bool
+    requires { ⌜ (m ≤ 8) × (i < 24) × (v < 8) × (at + 4 * m + 3 ≤ length (now cells)) × Each (Within 4000000) (now cells) × Within 10000 (getD (weightsIn (now coefs)) i (pos 0)) × Each (Within 1000) (coefsIn (now coefs)) × Each (Within 200000) (totalsAt i (now trail)) × Within 4000000 (budgetAt i (now trail)) × (length (now coefs) ≡ 232) × (length (now values) ≡ 216) × (length (now trail) ≡ 225) ⌝ }
+    ensures { λ r. ⌜ r ≡ goesOn m (now (coefs .entry)) (now (values .entry)) i v (now (cells .entry)) at (now (trail .entry)) ⌝ }
+    ensures trail { λ r. ⌜ now (trail .exit) ≡ cond (goesOn m (now (coefs .entry)) (now (values .entry)) i v (now (cells .entry)) at (now (trail .entry))) (trod (now (coefs .entry)) (now (values .entry)) i v (now (trail .entry))) (now (trail .entry)) ⌝ }
+{
+    let set = values[WEIGHTS + i];
+    if !allows(set, v) {
+        return false;
+    }
+    let weight = coefs[WEIGHTS + i];
+    let rest = trail[i * LEVEL + 8] - problem::price(weight, v);
+    if rest < cells[at + 4 * m + 2] {
+        return false;
+    }
+    let totals = with_shares(coefs, values, i, v, trail);
+    if !may_keep_all(m, coefs, cells, at, totals) {
+        return false;
+    }
+    put_level(trail, (i + 1) * LEVEL, totals, rest);
+    true
+}
+
+// A slot's step set, as wide as the values that it stands behind.
+fn wide(set: u16) -> u32
+    ensures { λ r. ⌜ r ≡ set ⌝ }
+{
+    set as u32
+}
+
+// What a walk reads of a problem, into two tables that are zero: of every slot what each rule counts there, eight to a slot; behind
+// it the weights and bounds, and the step sets.
 pub fn put_parts<'a>(
     n: usize,
     m: usize,
+    sets: &'a [u16; 24],
+    weights: &'a [i32; 24],
     kinds: &'a [u8; 8],
-    values: &'a [u16; 8],
+    counted: &'a [u16; 8],
     slots: &'a [u32; 8],
-    coefs: &'a [i32; 192],
-    units: &mut [i32; 192],
-    counted: &mut [u32; 192],
+    units: &'a [i32; 192],
+    lb: &'a [i32; 8],
+    ub: &'a [i32; 8],
+    coefs: &mut [i32; 232],
+    values: &mut [u32; 216],
 )
-    requires { ⌜ (n ≤ 24) × (m ≤ 8) × (now units ≡ replicate 192 (pos 0)) × (now counted ≡ replicate 192 0) ⌝ }
-    ensures units { λ r. ⌜ now (units .exit) ≡ coefTable n m (now (kinds .entry)) (now (coefs .entry)) ⌝ }
-    ensures counted { λ r. ⌜ now (counted .exit) ≡ valueTable n m (now (kinds .entry)) (now (values .entry)) (now (slots .entry)) ⌝ }
+    requires { ⌜ (n ≤ 24) × (m ≤ 8) × (length (now sets) ≡ 24) × (length (now weights) ≡ 24) × (length (now lb) ≡ 8) × (length (now ub) ≡ 8) × (now coefs ≡ replicate 232 (pos 0)) × (now values ≡ replicate 216 0) ⌝ }
+    ensures coefs { λ r. ⌜ (coefsIn (now (coefs .exit)) ≡ coefTable n m (now (kinds .entry)) (now (units .entry))) × (weightsIn (now (coefs .exit)) ≡ now (weights .entry)) × (leastsIn (now (coefs .exit)) ≡ now (lb .entry)) × (mostsIn (now (coefs .exit)) ≡ now (ub .entry)) × (length (now (coefs .exit)) ≡ 232) ⌝ }
+    ensures values { λ r. ⌜ (valuesIn (now (values .exit)) ≡ valueTable n m (now (kinds .entry)) (now (counted .entry)) (now (slots .entry))) × (setsIn (now (values .exit)) ≡ now (sets .entry)) × (length (now (values .exit)) ≡ 216) ⌝ }
 {
     let mut i: usize = 0;
     while i < n {
-        let p = slot::parts_of(m, i, kinds, values, slots, coefs);
+        let p = slot::parts_of(m, i, kinds, counted, slots, units);
         let mut r: usize = 0;
         while r < 8 {
             let coef = p.coefs[r];
             let value = p.values[r];
-            units[i * 8 + r] = coef;
-            counted[i * 8 + r] = value;
+            coefs[i * 8 + r] = coef;
+            values[i * 8 + r] = value;
             r += 1;
         }
         i += 1;
+    }
+    let mut k: usize = 0;
+    while k < 24 {
+        let weight = weights[k];
+        let set = sets[k];
+        coefs[WEIGHTS + k] = weight;
+        values[WEIGHTS + k] = wide(set);
+        k += 1;
+    }
+    let mut r: usize = 0;
+    while r < 8 {
+        let least = lb[r];
+        let most = ub[r];
+        coefs[LEASTS + r] = least;
+        coefs[MOSTS + r] = most;
+        r += 1;
     }
 }
 
@@ -149,7 +220,8 @@ pub fn put_parts<'a>(
 // A plan comes by, after `seen` others: laid on the page where there is room.
 pub fn put(plan: &[u8; 24], n: usize, cap: usize, page: &mut [u8], seen: usize) -> usize
     requires { ⌜ (n ≤ 24) × (seen ≤ cap) × (cap * n ≤ length (now page)) × (cap ≤ length (now page)) × (n ≤ length (now plan)) ⌝ }
-    ensures { λ r. ⌜ record { page = now (page .exit); seen = r } ≡ laying n cap (record { page = now (page .entry); seen = seen }) (take n (now (plan .entry))) ⌝ }
+    ensures laid { λ r. ⌜ record { page = now (page .exit); seen = r } ≡ laying n cap (record { page = now (page .entry); seen = seen }) (take n (now (plan .entry))) ⌝ }
+    ensures one { λ r. ⌜ r ≡ suc seen ⌝ }
 {
     if seen < cap {
         let at = seen * n;
@@ -160,21 +232,6 @@ pub fn put(plan: &[u8; 24], n: usize, cap: usize, page: &mut [u8], seen: usize) 
         }
     }
     seen + 1
-}
-
-// A plan has arrived at the sink: it comes by, unless it is the start itself or the page has all that it asks for.
-pub fn leaf(own: bool, plan: &[u8; 24], n: usize, cap: usize, page: &mut [u8], seen: usize) -> usize
-    requires { ⌜ (n ≤ 24) × (cap * n ≤ length (now page)) × (cap ≤ length (now page)) × (n ≤ length (now plan)) × (seen ≤ suc cap) ⌝ }
-    ensures laid { λ r. ⌜ record { page = now (page .exit); seen = r } ≡ cond own (record { page = now (page .entry); seen = seen }) (laying n cap (record { page = now (page .entry); seen = seen }) (take n (now (plan .entry)))) ⌝ }
-    ensures few { λ r. ⌜ r ≤ suc cap ⌝ }
-{
-    if own {
-        return seen;
-    }
-    if cap < seen {
-        return seen;
-    }
-    put(plan, n, cap, page, seen)
 }
 
 // The start, before the walk overwrites it step by step.

@@ -30,8 +30,8 @@ use Rattle.lent.proofs.Led.{ups-at}
 use Rattle.lent.proofs.Whole.{Whole, layers-long, layer-at, bytes-whole, down-first, up-last}
 use Rattle.lent.proofs.Brings.{has-not, has-some, arc-brings}
 use Rattle.slot.specs.Rows.{lanesOf}
-use Rattle.walk.specs.Beginnings.{keepsFrom, fits, behind, rests, Walkable, Steers, Stands}
-use Rattle.step.specs.Steps.{firstOf, isOpen, mayKeep, withShares}
+use Rattle.walk.specs.Beginnings.{keepsFrom, fits, behind, rests, Walkable, Steers, Stands, firstOf, isOpen}
+use Rattle.step.specs.Steps.{mayKeep, withShares}
 use Rattle.walk.proofs.Rests.{added, onto, stepRests}
 use Rattle.walk.proofs.Nodes.{origin, downOf, upOf, low-up, high-up, cost-up}
 

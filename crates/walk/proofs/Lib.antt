@@ -17,3 +17,7 @@ pub mod Steered
 pub mod Sweeping
 -- the form of bytes that no builder need have made
 pub mod Forming
+-- the levels of the trail
+pub mod Trail
+-- a step of the recursion
+pub mod Paces

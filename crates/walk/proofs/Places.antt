@@ -1,6 +1,5 @@
 -- Where do a node's arc byte and a child's cells stand, and how large are totals and budget?
 use mathlib.Core.List.{List, [], _∷_}
-use mathlib.Core.Bool.{true, true≢false}
 use mathlib.Core.Path.{_≡_, refl, sym, _∙_, ap}
 use Prim.Native.Nat.{ℕ, zero, suc, _+_, _*_, _-_, _/_, _^_, _≤_, _<_}
 use native.Mathlib.Nat.{mul-le-mul-left, mul-le-mul-right, suc-mul, mul-assoc, mod-lt}
@@ -10,13 +9,13 @@ use lib.IntN.{ℤ, _-ℤ_}
 use lib.ListN.{length, getD, take, drop, length-drop}
 use lib.Seq.{length-take-le}
 use Rattle.laws.specs.Z.{Within, sum-within}
-use Rattle.laws.proofs.Each.{Each, each-at, each-take, each-drop, each-more}
+use Rattle.laws.proofs.Each.{Each, each-at, each-take, each-drop}
 use Rattle.lent.specs.Lanes.{sums}
 use Rattle.slot.specs.Rows.{lanesOf}
 use Rattle.slot.proofs.Laws.{lane-within, lanes-long}
 use Rattle.state.proofs.Sizes.{neg-size}
 use Rattle.walk.specs.Beginnings.{Walkable}
-use Rattle.step.specs.Steps.{isOpen, withShares}
+use Rattle.step.specs.Steps.{withShares}
 
 -- ---- places
 mul-few : (i k w l : ℕ) → i ≤ k → w ≤ l → i * w ≤ k * l
@@ -37,17 +36,7 @@ module _ {n m w : ℕ} {weights coefs : List ℤ} {arcs : List ℕ} {cells : Lis
       let there : (i + 1) * w + b ≤ suc n * w = rw (add-one i) (omega (arith, mul-le-mul-right w h, suc-mul i w, suc-mul n w)) in
       rw (g .numbers) (mul-le-mul-right (4 * m + 3) there)
 
-  pub cells-small : (i b : ℕ) → i < n → b ≤ w → ((i + 1) * w + b) * (4 * m + 3) ≤ 14000
-  cells-small i b h f =
-      let rules = g .rules-few in
-      let wide = g .nodes-few in
-      omega (arith, mul-few ((i + 1) * w + b) 400 (4 * m + 3) 35 (omega (arith, row-few (i + 1) (omega arith))) (omega arith))
-
--- ---- a child of an open arc
-pub open-some : (m set v b next : ℕ) (cells : List ℤ) (z : ℤ) → isOpen m set v b next cells z ≡ true → 0 < b
-open-some m set v zero next cells z e = absurd (true≢false (sym e))
-open-some m set v (suc b) next cells z e = omega arith
-
+-- ---- a child
 pub child-end : (k m : ℕ) → 0 < k → (k - 1) * (4 * m + 3) + 4 * m + 3 ≡ k * (4 * m + 3)
 child-end zero m h = absurd (omega arith)
 child-end (suc k) m h = let less : suc k - 1 ≡ k = omega arith in rw less (omega (arith, suc-mul k (4 * m + 3)))
@@ -59,14 +48,8 @@ one-less n left h e = omega arith
 more : {z : ℤ} {m n : ℕ} → m ≤ n → Within m z → Within n z
 more h f = record { size = omega (arith, f .size) }
 
-pub budget-small : (i : ℕ) → i ≤ 24 → {z : ℤ} → Within (2000000 + 70000 * i) z → Within 10000000 z
-budget-small i h f = more (omega arith) f
-
 pub rest-within : (i : ℕ) {b y : ℤ} → Within (2000000 + 70000 * i) b → Within 70000 y → Within (2000000 + 70000 * suc i) (b -ℤ y)
 rest-within i {b} {y} h k = more (omega arith) (sum-within {n = 70000} h (record { size = omega (arith, neg-size y, k .size) }))
-
-pub totals-small : (i : ℕ) → i ≤ 24 → (ts : List ℤ) → Each (Within (7001 * i)) ts → Each (Within 1000000) ts
-totals-small i h ts f = each-more (Within (7001 * i)) (Within 1000000) (λ z k. more (omega arith) k) ts f
 
 sums-within : (i v : ℕ) → v < 8 → (ts cs : List ℤ) (vs : List ℕ) → Each (Within (7001 * i)) ts → Each (Within 1000) cs → Each (Within (7001 * suc i)) (sums ts (lanesOf cs vs v))
 sums-within i v h [] cs vs f k = tt

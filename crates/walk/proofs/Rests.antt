@@ -25,8 +25,7 @@ use Rattle.meaning.proofs.Order.{allowed-length, plans-allowed, plans-long}
 use Rattle.meaning.proofs.Walks.{fewer-walks}
 use Rattle.meaning.proofs.Drops.{drops-fewer}
 use Rattle.meaning.proofs.Keeps.{dropped}
-use Rattle.walk.specs.Beginnings.{keepsFrom, fits, behind, rests}
-use Rattle.step.specs.Steps.{firstOf}
+use Rattle.walk.specs.Beginnings.{keepsFrom, fits, behind, rests, firstOf}
 
 -- ---- the rests step by step
 -- each rule's total with its share of slot i and step v

@@ -43,7 +43,7 @@ use Rattle.numbers.proofs.Passes.{Setting, setting, few-rules, few-slots, parte
 use Rattle.numbers.proofs.Blocks.{block-at}
 use Rattle.step.specs.Answers.{listedAs}
 use Rattle.walk.specs.Beginnings.{rests, layAll, Walkable, Steers, Finds}
-use Rattle.step.specs.Steps.{Laid, coefTable, valueTable}
+use Rattle.step.specs.Steps.{Laid, coefTable, valueTable, coefsIn, weightsIn, leastsIn, mostsIn, valuesIn, setsIn, totalsAt, budgetAt}
 use Rattle.walk.proofs.Laying.{end, lay-count, lay-more, lay-page, lay-long}
 use Rattle.walk.proofs.Rests.{rests-long, walked-all, walked-behind}
 use Rattle.walk.proofs.Nodes.{downOf, upOf, celled}
@@ -62,7 +62,7 @@ bytes-low w (suc n) b e h =
     rw (take-append-drop k b) at (each-append (λ b. b ≤ w) first (drop k b) low (bytes-low w n (drop k b) (omega (arith, length-drop k b)) (h .1)))
 
 -- zeros are within any bound
-pub zeros-within : (m n : ℕ) → Each (Within m) (replicate n (pos 0))
+zeros-within : (m n : ℕ) → Each (Within m) (replicate n (pos 0))
 zeros-within m zero = tt
 zeros-within m (suc n) = (record { size = omega arith }, zeros-within m n)
 
@@ -153,14 +153,6 @@ module _ (p : Problem) (h : Right version1 p) where
       ∙ ap (λ (n : ℕ). map (λ (k : ℕ). g (ruleOf (saidAt p k))) (from 0 n)) (sym few)
       ∙ map-places (λ (k : ℕ). g (ruleOf (saidAt p k))) (take (p .m) l) (pos 0) (λ k b. same k ∙ sym (getD-take (p .m) l k (pos 0) (omega arith)))
 
--- the tables are whole
-module _ (p : Problem) where
-  pub coefs-count : {coefs : List ℤ} → coefs ≡ coefTable (p .n) (p .m) (p .kinds) (p .coefs) → length coefs ≡ 192
-  coefs-count is = ap length is ∙ length-padded (pos 0) 192 (gather (λ i. coefParts (p .m) i (p .kinds) (p .coefs)) (from 0 (p .n)))
-
-  pub values-count : {values : List ℕ} → values ≡ valueTable (p .n) (p .m) (p .kinds) (p .values) (p .slots) → length values ≡ 192
-  values-count is = ap length is ∙ length-padded {A = ℕ} 0 192 (gather (λ i. valueParts (p .m) i (p .kinds) (p .values) (p .slots)) (from 0 (p .n)))
-
 -- its slots
 pub slots-are : {p : Problem} → Right version1 p → length (p .sets) ≡ 24 → slots (campaignOf p) ≡ p .n
 slots-are {p} h sets = length-take-le (p .n) (p .sets) (omega (arith, h .head .most))
@@ -174,8 +166,8 @@ module _ {p : Problem} {w : ℕ} {arcs : List ℕ} {cells : List ℤ} (r : Ready
   set-up : Setting (campaignOf p) w (p .n) (p .m) arcs (arcsIn (campaignOf p) w arcs)
   set-up = setting r f sets
 
-  pub walkable : {coefs : List ℤ} → coefs ≡ coefTable (p .n) (p .m) (p .kinds) (p .coefs) → Walkable (p .n) (p .m) w (p .weights) coefs arcs cells
-  walkable is =
+  pub walkable : {weights coefs : List ℤ} → weights ≡ p .weights → coefs ≡ coefTable (p .n) (p .m) (p .kinds) (p .coefs) → Walkable (p .n) (p .m) w weights coefs arcs cells
+  walkable same is =
       let s = set-up in
       let q = campaignOf p in
       let low = form-low w (r .some) (arcsIn q w arcs) (form-of w (arcsIn q w arcs) (f .form)) in
@@ -188,7 +180,7 @@ module _ {p : Problem} {w : ℕ} {arcs : List ℕ} {cells : List ℤ} (r : Ready
         numbers = ap length e ∙ cells-count s ∙ sym (mul-assoc (suc (p .n)) w (4 * p .m + 3));
         lead = bytes-low w (p .n) arcs (s .long) (subst (λ (n : ℕ). Each (Each (Each (λ b. b ≤ w))) (map (parted w 8) (parted n (w * 8) arcs))) (slots-are no-fault sets) low);
         inside = rw e (cells-inside s);
-        priced = λ i b. said-weight p no-fault i b;
+        priced = λ i b. rw same (said-weight p no-fault i b);
         counted = rw is (coefs-inside p no-fault);
       }
 
@@ -247,25 +239,38 @@ module _ (p : Problem) (h : Right version1 p) (sets : length (p .sets) ≡ 24) (
       let own = not (eqb (length start) 0) in
       subst (Each (λ p₁. length p₁ ≡ p .n)) (found-walked s) (rw o at (rests-long (campaignOf p) a 0 0 (take (p .m) (replicate 8 (pos 0))) c own (take (p .n) plan)))
 
+-- with all slots left, the slot is the first
+first-slot : (n : ℕ) → n - n ≡ 0
+first-slot n = omega arith
+
+-- ---- the trail at the source: totals of zero, and the whole ceiling
+module _ (trail : List ℤ) (n : ℕ) where
+  pub totals-within : totalsAt 0 trail ≡ replicate 8 (pos 0) → Each (Within (7001 * (n - n))) (totalsAt (n - n) trail)
+  totals-within zeros = rw (first-slot n) (rw zeros (zeros-within (7001 * 0) 8))
+
+  pub budget-within : {c : ℤ} → budgetAt 0 trail ≡ c → Within 2000000 c → Within (2000000 + 70000 * (n - n)) (budgetAt (n - n) trail)
+  budget-within whole h = rw (first-slot n) (rw whole h)
+
 -- so the recursion's promise at the source says what is laid: the plans that the walk finds
-module _ {p : Problem} {w : ℕ} {arcs : List ℕ} {cells coefs : List ℤ} {values : List ℕ} (r : Ready p w) (sets : length (p .sets) ≡ 24) (low : length (p .lb) ≡ 8) (high : length (p .ub) ≡ 8)
+module _ {p : Problem} {w : ℕ} {arcs : List ℕ} {cells : List ℤ} (coefs : List ℤ) (values : List ℕ) (r : Ready p w) (sets : length (p .sets) ≡ 24) (low : length (p .lb) ≡ 8) (high : length (p .ub) ≡ 8)
     (f : Formed (campaignOf p) w arcs)
     (e : cells ≡ allCells (nodeNeed (campaignOf p)) w (downNumbers (campaignOf p) (arcsIn (campaignOf p) w arcs)) (upNumbers (campaignOf p) (arcsIn (campaignOf p) w arcs)))
-    (is : coefs ≡ coefTable (p .n) (p .m) (p .kinds) (p .coefs)) (are : values ≡ valueTable (p .n) (p .m) (p .kinds) (p .values) (p .slots)) where
-  pub laid-walked : (c z : ℤ) (start plan : List ℕ) → z ≡ c → plan ≡ start ++ replicate (24 - length start) 0 → (length start ≡ 0) ⊎ (length start ≡ p .n) → (cap : ℕ) (page later : List ℕ) (seen : ℕ)
-      → Finds (p .n) (p .m) w (p .sets) (p .weights) (p .lb) (p .ub) coefs values arcs cells (not (eqb (length start) 0)) (p .n - p .n) 0 (replicate 8 (pos 0)) z plan cap page 0 later seen
+    (is : (coefsIn coefs ≡ coefTable (p .n) (p .m) (p .kinds) (p .coefs)) × (weightsIn coefs ≡ p .weights) × (leastsIn coefs ≡ p .lb) × (mostsIn coefs ≡ p .ub) × (length coefs ≡ 232))
+    (are : (valuesIn values ≡ valueTable (p .n) (p .m) (p .kinds) (p .values) (p .slots)) × (setsIn values ≡ p .sets) × (length values ≡ 216)) where
+  pub laid-walked : (c : ℤ) (trail : List ℤ) (start plan : List ℕ) → totalsAt 0 trail ≡ replicate 8 (pos 0) → budgetAt 0 trail ≡ c → plan ≡ start ++ replicate (24 - length start) 0 → (length start ≡ 0) ⊎ (length start ≡ p .n)
+      → (cap : ℕ) (page later : List ℕ) (seen : ℕ)
+      → Finds (p .n) (p .m) w (setsIn values) (weightsIn coefs) (leastsIn coefs) (mostsIn coefs) (coefsIn coefs) (valuesIn values) arcs cells (not (eqb (length start) 0)) (p .n - p .n) 0 (totalsAt (p .n - p .n) trail) (budgetAt (p .n - p .n) trail) plan cap page 0 later seen
       → record { page = later; seen = seen } ≡ layAll (p .n) cap (record { page = page; seen = 0 }) (walked (arcsIn (campaignOf p) w arcs) (campaignOf p) c start)
-  laid-walked c z start plan same begun s cap page later seen finds =
+  laid-walked c trail start plan zeros whole begun s cap page later seen finds =
       let q = campaignOf p in
       let a = arcsIn q w arcs in
       let h = right version1 p (r .right) in
-      let none : p .n - p .n ≡ 0 = omega arith in
       let all : p .n - 0 ≡ p .n = omega arith in
-      let st = steers r sets f e is are low high in
-      let stands = guided.begins q a (p .n) (p .m) w (p .sets) (p .weights) (p .lb) (p .ub) coefs values arcs cells (walkable r sets f e is) st (h .head .some) z (take (p .m) (replicate 8 (pos 0))) in
+      let st = steers r sets f e (is .0) (are .0) low high in
+      let stands = guided.begins q a (p .n) (p .m) w (p .sets) (p .weights) (p .lb) (p .ub) (coefsIn coefs) (valuesIn values) arcs cells (walkable r sets f e refl (is .0)) st (h .head .some) c (take (p .m) (replicate 8 (pos 0))) in
       let own = not (eqb (length start) 0) in
       let walk = found-walked p h sets a c start plan begun s in
-      (rw (none, all) at finds) q a st stands ∙ ap (layAll (p .n) cap (record { page = page; seen = 0 })) (map-id (rests q a 0 0 (take (p .m) (replicate 8 (pos 0))) z own (take (p .n) plan)) ∙ ap (λ (t : ℤ). rests q a 0 0 (take (p .m) (replicate 8 (pos 0))) t own (take (p .n) plan)) same ∙ walk)
+      (rw (zeros, whole, are .1, is .1, is .2, is .3) at (rw (first-slot (p .n), all) at finds)) q a st stands ∙ ap (layAll (p .n) cap (record { page = page; seen = 0 })) (map-id (rests q a 0 0 (take (p .m) (replicate 8 (pos 0))) c own (take (p .n) plan)) ∙ walk)
 
 -- ---- the answer
 module _ (n cap : ℕ) (page later : List ℕ) (seen : ℕ) (ps : List (List ℕ)) (room : cap * n ≤ length page) (each : Each (λ p. length p ≡ n) ps)

@@ -9,12 +9,10 @@ use lib.Dec.{eqb}
 use lib.ListN.{length, getD, set, take, drop, length-drop}
 use lib.Seq.{length-take-le, take-take, take-suc-set, drop-set-lt, getD-take, drop-drop}
 use lib.IntN.{ℤ, pos, _-ℤ_, _*ℤ_}
-use borrow.Author.Tests.{eqb-true, lt-ltb, le-ltb}
-use Rattle.laws.proofs.Lists.{and-r}
 use Rattle.meaning.specs.Plan.{Campaign, slots}
 use Rattle.meaning.specs.Diagram.{Arcs}
-use Rattle.walk.specs.Beginnings.{rests, layAll, Walkable, Steers, Stands, Finds}
-use Rattle.step.specs.Steps.{firstOf, Laid, laying, isOpen, mayKeep, withShares}
+use Rattle.walk.specs.Beginnings.{rests, layAll, Walkable, Steers, Stands, Finds, firstOf, isOpen}
+use Rattle.step.specs.Steps.{Laid, laying, mayKeep, withShares}
 use Rattle.walk.proofs.Laying.{lay-append, lay-full}
 use Rattle.walk.proofs.Rests.{stepRests, fromStep, rests-end, rests-node, from-next, from-end}
 use Rattle.walk.proofs.Guided.{length-a, long, shut, cut, goes, stands}
@@ -126,7 +124,7 @@ module _ (n m w : ℕ) (sets : List ℕ) (weights lb ub coefs : List ℤ) (value
         none-next later t f q a s b (cut q a n m w sets weights lb ub coefs values arcs cells g s i j v totals budget t8 hi hj hv own own-rest b o k)
 
     -- along the arc: what the recursion found
-    pub going-on : (first : ℕ) → first ≡ firstOf own (drop i plan) → (written : List ℕ) → length written ≡ 24 → take i written ≡ take i plan → (v ≡ first → written ≡ plan) → (later : List ℕ) (t : ℕ) (later₁ : List ℕ) (t₁ : ℕ) → opens ≡ true → keeps ≡ true
+    pub going-on : (first : ℕ) → first ≡ firstOf own (drop i plan) → (written : List ℕ) → length written ≡ 24 → take i written ≡ take i plan → (own && eqb v first ≡ true → written ≡ plan) → (later : List ℕ) (t : ℕ) (later₁ : List ℕ) (t₁ : ℕ) → opens ≡ true → keeps ≡ true
         → Finds n m w sets weights lb ub coefs values arcs cells (own && eqb v first) (suc i) (byte - 1) here rest (set written i v) cap later t later₁ t₁ → Going later t v → Going later₁ t₁ (v + 1)
     going-on first fi written long24 same whole later t later₁ t₁ o k found f q a s b =
         let few = g .slots-few in
@@ -138,7 +136,7 @@ module _ (n m w : ℕ) (sets : List ℕ) (weights lb ub coefs : List ℤ) (value
         let firsts : firstOf own own-rest ≡ first = first-taken own (n - i) (drop i plan) (omega arith) ∙ sym fi in
         let b₁ = stands q a n m w sets weights lb ub coefs values arcs cells g s i j v totals budget t8 hi hj hv b o k in
         let begun : take (suc i) (set written i v) ≡ pre ++ (v ∷ []) = take-suc-set written i v (omega arith) ∙ ap (λ (l : List ℕ). l ++ (v ∷ [])) same in
-        let suffix : mine ≡ true → take (n - suc i) (drop (suc i) (set written i v)) ≡ drop 1 own-rest = λ e. go (whole (eqb-true v first (and-r own (eqb v first) e))) in
+        let suffix : mine ≡ true → take (n - suc i) (drop (suc i) (set written i v)) ≡ drop 1 own-rest = λ e. go (whole e) in
         let rests₁ = free-rests q a (suc i) (byte - 1) ts rest mine (take (n - suc i) (drop (suc i) (set written i v))) (drop 1 own-rest) suffix in
         let stepped : stepRests q a i j (take m totals) budget own own-rest v ≡ map (λ p. v ∷ p) (rests q a (suc i) (byte - 1) ts rest mine (drop 1 own-rest)) = rw firsts at (goes q a n m w sets weights lb ub coefs values arcs cells g s i j v totals budget t8 hi hj hv own own-rest o) in
         let done : record { page = later₁; seen = t₁ } ≡ layAll n cap at (map begins (stepRests q a i j (take m totals) budget own own-rest v)) =
@@ -149,9 +147,3 @@ module _ (n m w : ℕ) (sets : List ℕ) (weights lb ub coefs : List ℤ) (value
         go e =
             let count : n - i ≡ suc (n - suc i) = omega arith in
             rw (drop-set-lt (suc i) written i v (omega arith), e, count, drop-one-take (n - suc i) (drop i plan), drop-drop 1 i plan, add-one i) refl
-
--- the same of equal numbers and pages
-pub moved : (n m w : ℕ) (sets : List ℕ) (weights lb ub coefs : List ℤ) (values arcs : List ℕ) (cells : List ℤ) (own : Bool) (i j : ℕ) (totals : List ℤ) (budget : ℤ) (plan : List ℕ) (cap : ℕ) (page : List ℕ) (seen : ℕ)
-    → (budget₁ : ℤ) (later later₁ : List ℕ) (t t₁ v : ℕ) → budget₁ ≡ budget → later₁ ≡ later → t₁ ≡ t → Going n m w sets weights lb ub coefs values arcs cells own i j totals budget plan cap page seen later t v
-    → Going n m w sets weights lb ub coefs values arcs cells own i j totals budget₁ plan cap page seen later₁ t₁ v
-moved n m w sets weights lb ub coefs values arcs cells own i j totals budget plan cap page seen budget₁ later later₁ t t₁ v e f g h = rw (e, f, g) h

@@ -1,16 +1,17 @@
 -- Which plans does a beginning of a plan lead to, along any arcs, and in which order does the walk lay them on the page?
 use mathlib.Core.Path.{_≡_}
 use mathlib.Core.List.{List, [], _∷_, _++_, map}
-use mathlib.Core.Bool.{Bool, true, _&&_, cond}
+use mathlib.Core.Bool.{Bool, true, not, _&&_, cond}
 use mathlib.Core.Option.{none}
 use Prim.Native.Nat.{ℕ, suc, _+_, _*_, _-_, _≤_, _<_}
+use lib.Dec.{eqb}
 use lib.ListN.{length, getD, take, drop}
 use lib.IntN.{ℤ, pos, _+ℤ_, _*ℤ_}
 use lib.Signed.{leZ}
 use Rattle.laws.specs.Z.{Within}
 use Rattle.laws.specs.Lists.{keep}
 use Rattle.laws.proofs.Each.{Each}
-use Rattle.meaning.specs.Plan.{Rule, Campaign, slots, summed, total, plans, after}
+use Rattle.meaning.specs.Plan.{Rule, Campaign, slots, summed, total, plans, after, allows}
 use Rattle.meaning.specs.Diagram.{Arcs}
 use Rattle.meaning.specs.Filter.{downNumbers, upNumbers}
 use Rattle.meaning.specs.Bound.{walks}
@@ -42,6 +43,30 @@ abbrev pub layAll : ℕ → ℕ → Laid → List (List ℕ) → Laid
 layAll n cap s [] = s
 layAll n cap s (p ∷ ps) = layAll n cap (laying n cap s p) ps
 
+-- ---- the sizes of a walk: n, m, w, and how many plans the page has room for
+abbrev pub slotsIn : List ℕ → ℕ
+slotsIn x = getD x 0 0
+
+abbrev pub rulesIn : List ℕ → ℕ
+rulesIn x = getD x 1 0
+
+abbrev pub widthIn : List ℕ → ℕ
+widthIn x = getD x 2 0
+
+abbrev pub roomIn : List ℕ → ℕ
+roomIn x = getD x 3 0
+
+-- ---- a step
+-- where the steps begin: at the start's own
+abbrev pub firstOf : Bool → List ℕ → ℕ
+firstOf own s = cond own (getD s 0 0) 0
+
+-- an arc of a step that the slot allows, to a node whose cost up, the last of its 4m + 3 cells, is within the budget
+abbrev pub isOpen : ℕ → ℕ → ℕ → ℕ → ℕ → List ℤ → ℤ → Bool
+isOpen m set v b next cells budget =
+    not (eqb b 0) && (allows 8 set v && leZ (getD cells ((next + b - 1) * (4 * m + 3) + 4 * m + 2) (pos 0)) budget)
+
+-- ---- what the arrays and buffers say
 -- the arrays and buffers are long enough, and what they hold is in range
 pub record Walkable (n m w : ℕ) (weights coefs : List ℤ) (arcs : List ℕ) (cells : List ℤ) : Type 0 where
   pub slots-few : n ≤ 24

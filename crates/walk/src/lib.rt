@@ -3,7 +3,7 @@ ghost use mathlib.Core.Path.{_≡_};
 ghost use mathlib.Core.Bool.{true};
 ghost use mathlib.Core.Logic.{_⊎_};
 ghost use Prim.Native.Nat.{suc, _+_, _*_, _-_, _/_, _≤_, _<_};
-ghost use lib.ListN.{length, take};
+ghost use lib.ListN.{length, getD, take};
 ghost use Rattle.laws.specs.Z.{Within};
 ghost use Rattle.laws.proofs.Each.{Each};
 ghost use Rattle.meaning.specs.Plan.{Campaign, slots};
@@ -14,82 +14,114 @@ ghost use Rattle.problem.specs.Held.{campaignOf};
 ghost use Rattle.lent.specs.Wide.{laid};
 ghost use Rattle.numbers.specs.Whole.{Ready, Formed};
 ghost use Rattle.step.specs.Answers.{listedAs};
-ghost use Rattle.walk.specs.Beginnings.{Walkable, Finds};
+ghost use Rattle.step.specs.Steps.{coefsIn, weightsIn, leastsIn, mostsIn, valuesIn, setsIn, totalsAt, budgetAt};
+ghost use Rattle.walk.specs.Beginnings.{slotsIn, rulesIn, widthIn, roomIn, Walkable, Finds};
 use problem::Problem;
 use step::Listed;
 
 // ---- the recursion
+// The byte of step v at node j of slot i.
+fn byte_at(arcs: &[u8], w: usize, i: usize, j: usize, v: usize) -> usize
+    requires { ⌜ (i * w + j ≤ 400) × (v < 8) × ((i * w + j) * 8 + v < length (now arcs)) ⌝ }
+    ensures { λ r. ⌜ r ≡ getD (now (arcs .entry)) ((i * w + j) * 8 + v) 0 ⌝ }
+{
+    arcs[(i * w + j) * 8 + v] as usize
+}
+
+// Where the cells of the node begin that a byte of slot i leads to.
+fn child_at(m: usize, w: usize, i: usize, b: usize) -> usize
+    requires { ⌜ (m ≤ 8) × (0 < b) × ((i + 1) * w + b ≤ 400) ⌝ }
+    ensures { λ r. ⌜ r ≡ ((i + 1) * w + b - 1) * (4 * m + 3) ⌝ }
+{
+    (i * w + w + b - 1) * (4 * m + 3)
+}
+
 // Lays on the page every plan that begins with the first n - left steps of `plan` and goes on from node j, as far as it is lawful and
-// within the ceiling: these steps have these totals and leave this budget. If they are the start's own, what follows in `plan` is the
-// start's rest, and only plans after it count. Says how many plans came by, at most one more than the page has room for.
+// within the ceiling: the trail has their totals and what they leave of the ceiling. If they are the start's own, what follows in
+// `plan` is the start's rest, and only plans after it count: first those along its own step, then those behind. Says how many plans
+// came by, at most one more than the page has room for. The sizes are n, m, w and that room.
 fn node<'a>(
-    n: usize,
-    m: usize,
-    w: usize,
-    sets: &'a [u16; 24],
-    weights: &'a [i32; 24],
-    lb: &'a [i32; 8],
-    ub: &'a [i32; 8],
-    coefs: &'a [i32; 192],
-    values: &'a [u32; 192],
+    sizes: &'a [usize; 4],
+    coefs: &'a [i32; 232],
+    values: &'a [u32; 216],
     arcs: &[u8],
     cells: &[i32],
     own: bool,
     left: usize,
     j: usize,
-    totals: &[i32; 8],
-    budget: i32,
+    trail: &mut [i32; 225],
     plan: &mut [u8; 24],
-    cap: usize,
     page: &mut [u8],
     seen: usize,
 ) -> usize
-    requires { ⌜ Walkable n m w (now weights) (now coefs) (now arcs) (now cells) × (1 ≤ left) × (left ≤ n) × (j < w) × Each (Within (7001 * (n - left))) (now totals) × Within (2000000 + 70000 * (n - left)) budget × (cap * n ≤ length (now page)) × (cap ≤ length (now page)) × (seen ≤ suc cap) × (length (now coefs) ≡ 192) × (length (now values) ≡ 192) × (length (now totals) ≡ 8) × (length (now plan) ≡ 24) ⌝ }
-    ensures found { λ r. ⌜ Finds n m w (now (sets .entry)) (now (weights .entry)) (now (lb .entry)) (now (ub .entry)) (now (coefs .entry)) (now (values .entry)) (now (arcs .entry)) (now (cells .entry)) own (n - left) j (now (totals .entry)) budget (now (plan .entry)) cap (now (page .entry)) seen (now (page .exit)) r ⌝ }
-    ensures begins { λ r. ⌜ take (n - left) (now (plan .exit)) ≡ take (n - left) (now (plan .entry)) ⌝ }
-    ensures long { λ r. ⌜ length (now (plan .exit)) ≡ 24 ⌝ }
-    ensures few { λ r. ⌜ r ≤ suc cap ⌝ }
+    requires { ⌜ Walkable (slotsIn (now sizes)) (rulesIn (now sizes)) (widthIn (now sizes)) (weightsIn (now coefs)) (coefsIn (now coefs)) (now arcs) (now cells) × (1 ≤ left) × (left ≤ slotsIn (now sizes)) × (j < widthIn (now sizes))
+        × Each (Within (7001 * (slotsIn (now sizes) - left))) (totalsAt (slotsIn (now sizes) - left) (now trail)) × Within (2000000 + 70000 * (slotsIn (now sizes) - left)) (budgetAt (slotsIn (now sizes) - left) (now trail))
+        × (roomIn (now sizes) * slotsIn (now sizes) ≤ length (now page)) × (roomIn (now sizes) ≤ length (now page)) × (seen ≤ suc (roomIn (now sizes)))
+        × (length (now sizes) ≡ 4) × (length (now coefs) ≡ 232) × (length (now values) ≡ 216) × (length (now trail) ≡ 225) × (length (now plan) ≡ 24) ⌝ }
+    ensures found { λ r. ⌜ Finds (slotsIn (now (sizes .entry))) (rulesIn (now (sizes .entry))) (widthIn (now (sizes .entry))) (setsIn (now (values .entry))) (weightsIn (now (coefs .entry))) (leastsIn (now (coefs .entry))) (mostsIn (now (coefs .entry))) (coefsIn (now (coefs .entry))) (valuesIn (now (values .entry))) (now (arcs .entry)) (now (cells .entry))
+        own (slotsIn (now (sizes .entry)) - left) j (totalsAt (slotsIn (now (sizes .entry)) - left) (now (trail .entry))) (budgetAt (slotsIn (now (sizes .entry)) - left) (now (trail .entry))) (now (plan .entry)) (roomIn (now (sizes .entry))) (now (page .entry)) seen (now (page .exit)) r ⌝ }
+    ensures begins { λ r. ⌜ take (slotsIn (now (sizes .entry)) - left) (now (plan .exit)) ≡ take (slotsIn (now (sizes .entry)) - left) (now (plan .entry)) ⌝ }
+    ensures trodden { λ r. ⌜ take ((slotsIn (now (sizes .entry)) - left + 1) * 9) (now (trail .exit)) ≡ take ((slotsIn (now (sizes .entry)) - left + 1) * 9) (now (trail .entry)) ⌝ }
+    ensures long { λ r. ⌜ (length (now (plan .exit)) ≡ 24) × (length (now (trail .exit)) ≡ 225) ⌝ }
+    ensures few { λ r. ⌜ r ≤ suc (roomIn (now (sizes .entry))) ⌝ }
 {
+    let n = sizes[0];
+    let m = sizes[1];
+    let w = sizes[2];
+    let cap = sizes[3];
     let i = n - left;
-    let weight = weights[i];
-    let set = sets[i];
-    let first = step::first_step(plan, i, own);
     let mut t = seen;
-    let mut v = first;
-    while v < 8 {
-        if cap < t {
+    let mut v: usize = 0;
+    if own {
+        v = step::step(plan[i]);
+        if 8 <= v {
             return t;
         }
-        let b = arcs[(i * w + j) * 8 + v] as usize;
-        let rest = budget - problem::price(weight, v);
-        if step::is_open(m, set, v, b, (i + 1) * w, cells, rest) {
-            let here = step::with_shares(coefs, values, i, v, totals);
-            let at = ((i + 1) * w + b - 1) * (4 * m + 3);
-            if step::may_keep(m, lb, ub, cells, at, &here) {
-                plan[i] = v as u8;
-                let mine = step::is_own(own, v, first);
-                if left == 1 {
-                    t = step::leaf(mine, plan, n, cap, page, t);
-                } else {
+        let b = byte_at(arcs, w, i, j, v);
+        if step::is_arc(b) {
+            if step::goes(m, coefs, values, i, v, cells, child_at(m, w, i, b), trail) {
+                if left != 1 {
                     t = node(
-                        n,
-                        m,
-                        w,
-                        sets,
-                        weights,
-                        lb,
-                        ub,
+                        sizes,
                         coefs,
                         values,
                         arcs,
                         cells,
-                        mine,
+                        true,
                         left - 1,
                         b - 1,
-                        &here,
-                        rest,
+                        trail,
                         plan,
-                        cap,
+                        page,
+                        t,
+                    );
+                }
+            }
+        }
+        v += 1;
+    }
+    while v < 8 {
+        let b = byte_at(arcs, w, i, j, v);
+        if step::is_arc(b) {
+            if cap < t {
+                return t;
+            }
+            if step::goes(m, coefs, values, i, v, cells, child_at(m, w, i, b), trail) {
+                plan[i] = v as u8;
+                if left == 1 {
+                    t = step::put(plan, n, cap, page, t);
+                } else {
+                    t = node(
+                        sizes,
+                        coefs,
+                        values,
+                        arcs,
+                        cells,
+                        false,
+                        left - 1,
+                        b - 1,
+                        trail,
+                        plan,
                         page,
                         t,
                     );
@@ -118,29 +150,29 @@ pub fn list(
 {
     let n = p.n;
     let cap = page.len() / n;
-    let mut coefs = [0i32; 192];
-    let mut values = [0u32; 192];
+    let sizes = [n, p.m, w, cap];
+    let mut coefs = [0i32; 232];
+    let mut values = [0u32; 216];
     step::put_parts(
         n,
         p.m,
+        &p.sets,
+        &p.weights,
         &p.kinds,
         &p.values,
         &p.slots,
         &p.coefs,
+        &p.lb,
+        &p.ub,
         &mut coefs,
         &mut values,
     );
-    let zeros = [0i32; 8];
+    let mut trail = [0i32; 225];
+    trail[8] = ceiling;
     let mut plan = step::begun(start);
     let own = start.len() != 0;
     let seen = node(
-        n,
-        p.m,
-        w,
-        &p.sets,
-        &p.weights,
-        &p.lb,
-        &p.ub,
+        &sizes,
         &coefs,
         &values,
         arcs,
@@ -148,10 +180,8 @@ pub fn list(
         own,
         n,
         0,
-        &zeros,
-        ceiling,
+        &mut trail,
         &mut plan,
-        cap,
         page,
         0,
     );

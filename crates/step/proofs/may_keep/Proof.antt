@@ -1,28 +1,30 @@
 -- `may_keep` meets its contract: rule by rule. What is left from rule r on decides.
 use mathlib.Core.Path.{_≡_, refl}
-use mathlib.Core.Bool.{Bool}
+use mathlib.Core.List.{List}
+use mathlib.Core.Bool.{Bool, _&&_}
 use Prim.Native.Nat.{ℕ, _+_, _*_, _-_, _≤_, _<_}
 use native.Mathlib.Omega.{arith}
 use denote.Ref.{now}
 use lib.ListN.{getD, drop}
-use lib.IntN.{pos}
+use lib.IntN.{ℤ, pos, _+ℤ_}
+use lib.Signed.{leZ}
 use mir.Syntax.{w32}
 use mir.Val.{SFits}
-use Rattle.laws.specs.Z.{Within}
+use Rattle.laws.specs.Z.{Within, sum-within}
 use Rattle.laws.specs.Lists.{every, from}
 use Rattle.laws.proofs.Each.{each-at}
 use Rattle.laws.proofs.Left.{places-go, places-stop, places-end}
-use Rattle.step.specs.Steps.{mayKeep}
-use Rattle.step.proofs.Steps.{keepsAt, both-fits, above, below, inside}
+use Rattle.step.specs.Steps.{mayKeep, leastsIn, mostsIn}
+use Rattle.step.proofs.Steps.{keepsAt, part-at, both-fits, above, below, inside}
 use borrow.Author.Needs.{needs}
 use Rattle.step.proofs.may_keep.Statement.{statement}
 use Rattle.step.proofs.may_keep.Tie as tie
 
 abbrev Inv-loop : tie.InvT-loop
-Inv-loop m lb ub cells at totals r₀ r = (r ≤ m) × (mayKeep m lb ub cells at totals ≡ every (keepsAt lb ub cells at totals) (drop r (from 0 m)))
+Inv-loop m coefs cells at totals r₀ r = (r ≤ m) × (mayKeep m (leastsIn coefs) (mostsIn coefs) cells at totals ≡ every (keepsAt (leastsIn coefs) (mostsIn coefs) cells at totals) (drop r (from 0 m)))
 
 abbrev μ-loop : tie.MeasureT-loop
-μ-loop m lb ub cells at totals r₀ r = m - r
+μ-loop m coefs cells at totals r₀ r = m - r
 
 loop-holds : tie.Need-loop-holds Inv-loop μ-loop
 loop-holds c = (omega arith, refl)
@@ -57,11 +59,17 @@ mul-high-2 c = let s = c .before .before .before in omega (arith, s .pre .0, s .
 shared-slice-copy-out-high : tie.Need-shared-slice-copy-out-high Inv-loop μ-loop
 shared-slice-copy-out-high c = let s = c .before .before .before in omega (arith, s .pre .0, s .pre .1)
 
+add-least : tie.Need-add-least Inv-loop μ-loop
+add-least c = omega (arith, c .before .before .before .before .pre .0)
+
 mul-least : tie.Need-mul-least Inv-loop μ-loop
 mul-least c = omega (arith, c .before .before .before .before .pre .0)
 
 element-copy-out-least : tie.Need-element-copy-out-least Inv-loop μ-loop
 element-copy-out-least c = omega (arith, c .before .before .before .before .pre .0)
+
+add-most : tie.Need-add-most Inv-loop μ-loop
+add-most c = omega (arith, c .before .before .before .before .before .pre .0)
 
 mul-most : tie.Need-mul-most Inv-loop μ-loop
 mul-most c = omega (arith, c .before .before .before .before .before .pre .0)
@@ -72,8 +80,8 @@ element-copy-out-most c = omega (arith, c .before .before .before .before .befor
 mul-t : tie.Need-mul-t Inv-loop μ-loop
 mul-t c = omega (arith, c .before .before .before .before .before .before .pre .0)
 
-element-copy-out-t : tie.Need-element-copy-out-t Inv-loop μ-loop
-element-copy-out-t c = omega (arith, c .before .before .before .before .before .before .pre .0)
+array-copy-out-t : tie.Need-array-copy-out-t Inv-loop μ-loop
+array-copy-out-t c = omega (arith, c .before .before .before .before .before .before .pre .0)
 
 -- where rule r is tested
 module _ (c : tie.After-t Inv-loop μ-loop) where
@@ -86,8 +94,17 @@ module _ (c : tie.After-t Inv-loop μ-loop) where
   abbrev r : ℕ
   r = c .before .before .before .before .before .before .loop .r
 
+  abbrev coefs : List ℤ
+  coefs = now (s .args .coefs)
+
+  abbrev cells : List ℤ
+  cells = now (s .args .cells)
+
+  abbrev totals : List ℤ
+  totals = s .args .t5
+
   abbrev test : ℕ → Bool
-  test = keepsAt (now (s .args .lb)) (now (s .args .ub)) (now (s .args .cells)) (s .args .at) (now (s .args .totals))
+  test = keepsAt (leastsIn coefs) (mostsIn coefs) cells (s .args .at) totals
 
   taken : r < m
   taken = c .before .before .before .before .before .loop-test .taken
@@ -95,36 +112,42 @@ module _ (c : tie.After-t Inv-loop μ-loop) where
   left : every test (from 0 m) ≡ every test (drop r (from 0 m))
   left = c .before .before .before .before .before .before .loop .inv .1
 
-  total : Within 1000000 (getD (now (s .args .totals)) r (pos 0))
-  total = each-at (Within 1000000) (now (s .args .totals)) r (pos 0) (record { size = omega arith }) (s .pre .3)
+  total : Within 1000000 (getD totals r (pos 0))
+  total = each-at (Within 1000000) totals r (pos 0) (record { size = omega arith }) (s .pre .3)
 
-  low : Within 4000000 (getD (now (s .args .cells)) (s .args .at + 4 * r + 3) (pos 0))
-  low = each-at (Within 4000000) (now (s .args .cells)) (s .args .at + 4 * r + 3) (pos 0) (record { size = omega arith }) (s .pre .2)
+  low : Within 4000000 (getD cells (s .args .at + 4 * r + 3) (pos 0))
+  low = each-at (Within 4000000) cells (s .args .at + 4 * r + 3) (pos 0) (record { size = omega arith }) (s .pre .2)
 
-  high : Within 4000000 (getD (now (s .args .cells)) (s .args .at + 4 * r + 4) (pos 0))
-  high = each-at (Within 4000000) (now (s .args .cells)) (s .args .at + 4 * r + 4) (pos 0) (record { size = omega arith }) (s .pre .2)
+  high : Within 4000000 (getD cells (s .args .at + 4 * r + 4) (pos 0))
+  high = each-at (Within 4000000) cells (s .args .at + 4 * r + 4) (pos 0) (record { size = omega arith }) (s .pre .2)
 
-  lb : SFits w32 (getD (now (s .args .lb)) r (pos 0))
-  lb = record { sfits = c .before .before .least .given }
+  least : SFits w32 (getD coefs (216 + r) (pos 0))
+  least = record { sfits = c .before .before .least .given }
 
-  ub : SFits w32 (getD (now (s .args .ub)) r (pos 0))
-  ub = record { sfits = c .before .most .given }
+  most : SFits w32 (getD coefs (224 + r) (pos 0))
+  most = record { sfits = c .before .most .given }
+
+  -- the test, by the bounds as they stand in the table
+  tested : {t : Bool} → (leZ (getD totals r (pos 0) +ℤ getD cells (s .args .at + 4 * r + 3) (pos 0)) (getD coefs (224 + r) (pos 0)) && leZ (getD coefs (216 + r) (pos 0)) (getD totals r (pos 0) +ℤ getD cells (s .args .at + 4 * r + 4) (pos 0))) ≡ t → test r ≡ t
+  tested e =
+      let below : r < 8 = omega (arith, taken, s .pre .0) in
+      rw (part-at 8 224 coefs (pos 0) r below, part-at 8 216 coefs (pos 0) r below) e
 
 add-if1 : tie.Need-add-if1 Inv-loop μ-loop
-add-if1 c = both-fits (total c) (low c) tt
+add-if1 c = both-fits _+ℤ_ (total c) (low c) (sum-within (total c) (low c)) tt tt tt
 
 returns : tie.Need-returns Inv-loop μ-loop
 returns c =
     let b = c .before in
-    places-stop (test b) (m b) (r b) (taken b) (above (total b) (low b) (high b) (lb b) (ub b) (c .if1 .taken)) (left b)
+    places-stop (test b) (m b) (r b) (taken b) (tested b (above (total b) (low b) (high b) (least b) (most b) (c .if1 .taken))) (left b)
 
 add-if2 : tie.Need-add-if2 Inv-loop μ-loop
-add-if2 c = both-fits (total (c .before)) (high (c .before)) tt
+add-if2 c = let b = c .before in both-fits _+ℤ_ (total b) (high b) (sum-within (total b) (high b)) tt tt tt
 
 returns-2 : tie.Need-returns-2 Inv-loop μ-loop
 returns-2 c =
     let b = c .before .before in
-    places-stop (test b) (m b) (r b) (taken b) (below (total b) (low b) (high b) (lb b) (ub b) (c .if2 .taken)) (left b)
+    places-stop (test b) (m b) (r b) (taken b) (tested b (below (total b) (low b) (high b) (least b) (most b) (c .if2 .taken))) (left b)
 
 add-r : tie.Need-add-r Inv-loop μ-loop
 add-r c = search needs
@@ -135,12 +158,12 @@ loop-less c = search needs
 loop-again : tie.Need-loop-again Inv-loop μ-loop
 loop-again c =
     let b = c .before .before in
-    (omega arith, places-go (test b) (m b) (r b) (taken b) (inside (total b) (low b) (high b) (lb b) (ub b) (c .before .if1 .left) (c .if2 .left)) (left b))
+    (omega arith, places-go (test b) (m b) (r b) (taken b) (tested b (inside (total b) (low b) (high b) (least b) (most b) (c .before .if1 .left) (c .if2 .left))) (left b))
 
 returns-3 : tie.Need-returns-3 Inv-loop μ-loop
 returns-3 c =
     let a = c .before .before .args in
-    places-end (keepsAt (now (a .lb)) (now (a .ub)) (now (a .cells)) (a .at) (now (a .totals))) (a .m) (c .before .loop .r) (c .loop-test .left) (c .before .loop .inv .1)
+    places-end (keepsAt (leastsIn (now (a .coefs))) (mostsIn (now (a .coefs))) (now (a .cells)) (a .at) (a .t5)) (a .m) (c .before .loop .r) (c .loop-test .left) (c .before .loop .inv .1)
 
 pub may-keep-spec : {M : Type 1} → statement M
 may-keep-spec =
@@ -159,12 +182,14 @@ may-keep-spec =
     add-high-2
     mul-high-2
     shared-slice-copy-out-high
+    add-least
     mul-least
     element-copy-out-least
+    add-most
     mul-most
     element-copy-out-most
     mul-t
-    element-copy-out-t
+    array-copy-out-t
     add-if1
     returns
     add-if2

@@ -2,6 +2,7 @@
 use mathlib.Core.Path.{_≡_, sym, ap, _∙_}
 use mathlib.Core.Logic.{⊎-elim}
 use Prim.Native.Nat.{_-_}
+use native.Mathlib.Numerals.{add-one}
 use native.Mathlib.Omega.{arith}
 use denote.Ref.{now}
 use lib.ListN.{length, take}
@@ -64,10 +65,12 @@ returns c =
     let p = c .before .pre in
     let plan = take (a .n) (now (a .plan)) in
     let long : length plan ≡ a .n = length-take-le (a .n) (now (a .plan)) (p .4) in
+    let laid =
     ⊎-elim
     (λ w. put-laid (a .n) (a .cap) (now (a .page)) (a .seen) plan (w .0 .taken) (w .3 ∙ rw long at (copied-end (w .1 .inv) (omega (arith, long, w .2 .left)))))
     (λ w. put-full (a .n) (a .cap) (now (a .page)) (a .seen) plan (p .1) (w .0 .left) (w .1))
-    (c .if1 .came)
+    (c .if1 .came) in
+    (laid, add-one (a .seen))
 
 pub put-spec : {M : Type 1} → statement M
 put-spec =

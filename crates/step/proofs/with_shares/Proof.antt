@@ -1,25 +1,26 @@
 -- `with_shares` meets its contract: a turn lays one total.
 use mathlib.Core.Path.{_≡_, refl, sym, ap, _∙_}
-use Prim.Native.Nat.{ℕ, _+_, _*_, _-_, _≤_}
+use Prim.Native.Nat.{ℕ, _+_, _*_, _-_, _≤_, _<_}
 use native.Mathlib.Omega.{arith}
 use denote.Ref.{now}
 use lib.ListN.{getD, take}
+use lib.Seq.{getD-take}
 use lib.IntN.{pos, _+ℤ_}
-use Rattle.laws.specs.Z.{Within, back-is, back-within}
+use Rattle.laws.specs.Z.{Within, sum-within, back-is, back-within}
 use Rattle.laws.specs.Lists.{padded}
 use Rattle.laws.proofs.Each.{each-at}
 use Rattle.slot.specs.Rows.{laneOf}
-use Rattle.step.specs.Steps.{withShares}
-use Rattle.step.proofs.Steps.{both-fits, both-is, table-more, table-all, shares-long, share-at}
+use Rattle.step.specs.Steps.{coefsIn, totalsAt, hereAt}
+use Rattle.step.proofs.Steps.{both-fits, both-is, table-more, table-all, part-at, here-long, here-at}
 use borrow.Author.Needs.{needs}
 use Rattle.step.proofs.with_shares.Statement.{statement}
 use Rattle.step.proofs.with_shares.Tie as tie
 
 abbrev Inv-loop : tie.InvT-loop
-Inv-loop coefs values i v totals x₀ r₀ x r = (r ≤ 8) × (x ≡ padded 8 (pos 0) (take r (withShares coefs values i v totals)))
+Inv-loop coefs values i v trail x₀ r₀ x r = (r ≤ 8) × (x ≡ padded 8 (pos 0) (take r (hereAt coefs values i v trail)))
 
 abbrev μ-loop : tie.MeasureT-loop
-μ-loop coefs values i v totals x₀ r₀ x r = 8 - r
+μ-loop coefs values i v trail x₀ r₀ x r = 8 - r
 
 loop-holds : tie.Need-loop-holds Inv-loop μ-loop
 loop-holds c = (omega arith, refl)
@@ -49,27 +50,42 @@ element-copy-out-value : tie.Need-element-copy-out-value Inv-loop μ-loop
 element-copy-out-value c = omega (arith, c .before .before .before .pre .0)
 
 mul-t : tie.Need-mul-t Inv-loop μ-loop
-mul-t c = omega arith
+mul-t c = omega (arith, c .before .before .before .before .pre .0)
+
+add-t : tie.Need-add-t Inv-loop μ-loop
+add-t c = omega (arith, c .before .before .before .before .pre .0)
+
+mul-t-2 : tie.Need-mul-t-2 Inv-loop μ-loop
+mul-t-2 c = omega (arith, c .before .before .before .before .pre .0)
 
 element-copy-out-t : tie.Need-element-copy-out-t Inv-loop μ-loop
-element-copy-out-t c = omega arith
+element-copy-out-t c = omega (arith, c .before .before .before .before .pre .0)
 
 -- what is added, in range
-module _ (s : tie.Start Inv-loop μ-loop) (r : ℕ) where
+module _ (s : tie.Start Inv-loop μ-loop) (r : ℕ) (h : r < 8) where
   coef-within : Within 1000 (getD (now (s .args .coefs)) (s .args .i * 8 + r) (pos 0))
-  coef-within = each-at (Within 1000) (now (s .args .coefs)) (s .args .i * 8 + r) (pos 0) (record { size = omega arith }) (s .pre .2)
+  coef-within =
+      let k = s .args .i * 8 + r in
+      let cs = now (s .args .coefs) in
+      rw (getD-take 192 cs k (pos 0) (omega (arith, s .pre .0))) at (each-at (Within 1000) (coefsIn cs) k (pos 0) (record { size = omega arith }) (s .pre .2))
 
-  total-within : Within 1000000 (getD (now (s .args .totals)) r (pos 0))
-  total-within = each-at (Within 1000000) (now (s .args .totals)) r (pos 0) (record { size = omega arith }) (s .pre .3)
+  total-within : Within 1000000 (getD (now (s .args .trail)) (s .args .i * 9 + r) (pos 0))
+  total-within =
+      let i = s .args .i in
+      let trail = now (s .args .trail) in
+      rw (part-at 8 (i * 9) trail (pos 0) r h) at (each-at (Within 1000000) (totalsAt i trail) r (pos 0) (record { size = omega arith }) (s .pre .3))
 
 lane-requires : tie.Need-lane-requires Inv-loop μ-loop
 lane-requires c κs =
     let s = c .before .before .before .before .before in
     let r = c .before .before .before .before .loop .r in
-    (s .pre .1, back-within (coef-within s r) tt)
+    (s .pre .1, back-within (coef-within s r (c .before .before .before .loop-test .taken)) tt)
 
 add-x : tie.Need-add-x Inv-loop μ-loop
-add-x c = both-fits (total-within (c .before .before .before .before .before .before) (c .before .before .before .before .before .loop .r)) (c .lane .ensures .1) tt
+add-x c =
+    let t = total-within (c .before .before .before .before .before .before) (c .before .before .before .before .before .loop .r) (c .before .before .before .before .loop-test .taken) in
+    let l = c .lane .ensures .1 in
+    both-fits _+ℤ_ t l (sum-within t l) tt tt tt
 
 mul-x : tie.Need-mul-x Inv-loop μ-loop
 mul-x c = search needs
@@ -87,15 +103,20 @@ loop-again : tie.Need-loop-again Inv-loop μ-loop
 loop-again c =
     let s = c .before .before .before .before .before .before in
     let l = c .before .before .before .before .before .loop in
+    let below = c .before .before .before .before .loop-test .taken in
     let a = s .args in
     let cs = now (a .coefs) in
     let bs = now (a .values) in
-    let ts = now (a .totals) in
+    let ts = now (a .trail) in
     let lane : c .lane .result ≡ laneOf (getD cs (a .i * 8 + l .r) (pos 0)) (getD bs (a .i * 8 + l .r) 0) (a .v) =
-    c .lane .ensures .0 ∙ ap (λ z. laneOf z (getD bs (a .i * 8 + l .r) 0) (a .v)) (back-is (coef-within s (l .r)) tt) in
-    let is = both-is (total-within s (l .r)) (c .lane .ensures .1) tt ∙ ap (λ z. getD ts (l .r) (pos 0) +ℤ z) lane ∙ sym (share-at cs bs (a .i) (a .v) ts (s .pre .0) (s .pre .4) (s .pre .5) (s .pre .6) (l .r) (omega arith)) in
-    let long = shares-long cs bs (a .i) (a .v) ts (s .pre .0) (s .pre .4) (s .pre .5) (s .pre .6) in
-    (omega arith, rw (l .inv .1) (table-more 8 (pos 0) (withShares cs bs (a .i) (a .v) ts) (l .r) (omega arith) (omega arith) is))
+    c .lane .ensures .0 ∙ ap (λ z. laneOf z (getD bs (a .i * 8 + l .r) 0) (a .v)) (back-is (coef-within s (l .r) below) tt) in
+    let t = total-within s (l .r) below in
+    let is =
+    both-is _+ℤ_ t (c .lane .ensures .1) (sum-within t (c .lane .ensures .1)) tt tt tt
+    ∙ ap (λ z. getD ts (a .i * 9 + l .r) (pos 0) +ℤ z) lane
+    ∙ sym (here-at cs bs (a .i) (a .v) ts (s .pre .0) (s .pre .4) (s .pre .5) (s .pre .6) (l .r) below) in
+    let long = here-long cs bs (a .i) (a .v) ts (s .pre .0) (s .pre .4) (s .pre .5) (s .pre .6) in
+    (omega arith, rw (l .inv .1) (table-more 8 (pos 0) (hereAt cs bs (a .i) (a .v) ts) (l .r) (omega arith) (omega arith) is))
 
 returns : tie.Need-returns Inv-loop μ-loop
 returns c =
@@ -103,8 +124,8 @@ returns c =
     let a = s .args in
     let cs = now (a .coefs) in
     let bs = now (a .values) in
-    let ts = now (a .totals) in
-    c .before .loop .inv .1 ∙ table-all 8 (pos 0) (withShares cs bs (a .i) (a .v) ts) (c .before .loop .r) (shares-long cs bs (a .i) (a .v) ts (s .pre .0) (s .pre .4) (s .pre .5) (s .pre .6)) (c .loop-test .left)
+    let ts = now (a .trail) in
+    c .before .loop .inv .1 ∙ table-all 8 (pos 0) (hereAt cs bs (a .i) (a .v) ts) (c .before .loop .r) (here-long cs bs (a .i) (a .v) ts (s .pre .0) (s .pre .4) (s .pre .5) (s .pre .6)) (c .loop-test .left)
 
 pub with-shares-spec : {M : Type 1} → statement M
 with-shares-spec =
@@ -122,6 +143,8 @@ with-shares-spec =
     mul-value-2
     element-copy-out-value
     mul-t
+    add-t
+    mul-t-2
     element-copy-out-t
     lane-requires
     add-x
