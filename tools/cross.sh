@@ -1,6 +1,10 @@
 #!/bin/sh
 # cross.sh: prints the Rust compiler for x86-64 programs. On a machine of another kind it first installs, where one is missing, a C
 # compiler, a Rust library and an emulator for them; that takes Debian and its root.
+
+# without make's own variables, in which rustc would look for its job server
+unset MAKEFLAGS MFLAGS
+
 [ "$(uname -m)" = x86_64 ] && { echo rustc; exit; }
 
 target=x86_64-unknown-linux-gnu
