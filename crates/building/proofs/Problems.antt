@@ -40,8 +40,8 @@ use Rattle.numbers.proofs.Passes.{Setting, Down, setting, slot-asks, row-said, 
 use Rattle.classes.specs.Classes.{Held, Totalled, arrivalAt}
 use Rattle.reach.specs.Spans.{Reached, Says}
 use Rattle.layer.specs.Places.{builderOf}
-use Rattle.building.specs.Layers.{Made}
-use Rattle.building.proofs.Bounds.{boundsIn, bounds-inside}
+use Rattle.building.specs.Layers.{boundsAt, Made}
+use Rattle.building.proofs.Bounds.{boundsIn, bounds-said, bounds-inside}
 use Rattle.building.proofs.Slots.{allArcs, Building, building-start, building-held, building-few, building-room, building-bytes, building-more, building-end}
 
 -- the bytes of all arcs, as they will stand in the buffer
@@ -69,9 +69,6 @@ final {p} {w} relax r e =
     let bytes = allBytes relax p w in
     subst (λ a. Setting q w (p .n) (p .m) bytes a) (held-arcs q w (built b q w) shaped bytes refl) (setting r (held-formed q w (built b q w) shaped bytes refl) e)
 
-pub ready-of : {p : Problem} {w : ℕ} → faultIn version1 p ≡ 0 → 1 ≤ w → w ≤ 16 → Ready p w
-ready-of r h k = record { right = r; some = h; few = k }
-
 -- a problem has its own arrays
 pub says : (p : Problem) → faultIn version1 p ≡ 0 → Says (p .n) (p .m) (p .sets) (p .kinds) (p .values) (p .slots) (p .coefs) p
 says p r = record { right = r; n-is = refl; m-is = refl; sets-are = refl; kinds-are = refl; values-are = refl; slots-are = refl; coefs-are = refl }
@@ -80,7 +77,7 @@ pub zeros-long : {arcs : List ℕ} (n : ℕ) → arcs ≡ replicate n 0 → leng
 zeros-long n e = ap length e ∙ length-replicate n 0
 
 pub going-start : (p : Problem) (relax : Bool) (w : ℕ) (bounds : State) (table : List ℤ) (arcs₀ arcs : List ℕ) (cells here spare row : List ℤ) → Ready p w → length (p .sets) ≡ 24 → arcsNeed (campaignOf p) w ≤ length arcs₀
-    → bounds ≡ padded 8 noPair (boundsIn p) → Reached (campaignOf p) table → arcs ≡ replicate (length arcs₀) 0
+    → bounds ≡ padded 8 noPair (boundsAt (p .m) (p .lb) (p .ub)) → Reached (campaignOf p) table → arcs ≡ replicate (length arcs₀) 0
     → length cells ≡ cellsNeed (campaignOf p) w → here ≡ rowVec (some (replicate (p .m) origin, pos 0) ∷ []) → Spare spare → length row ≡ 136
     → Going p relax w (length arcs) bounds table arcs cells here spare row 1 true 0
 going-start p relax w bounds table arcs₀ arcs cells here spare row r s need b t e l o k u =
@@ -89,7 +86,7 @@ going-start p relax w bounds table arcs₀ arcs cells here spare row r s need b 
       ready = r;
       sets = s;
       need = omega arith;
-      ends = b;
+      ends = b ∙ ap (padded 8 noPair) (bounds-said p);
       reached = t;
       building = building-start relax (campaignOf p) (said-small p (right version1 p (r .right))) w (length arcs) arcs (e ∙ ap (λ n. replicate n 0) (sym long));
       down = down-start (final relax r s) (l ∙ need-is r s) o;

@@ -14,7 +14,7 @@ ghost use Rattle.meaning.specs.Calls.{wrongWidth, wrongNumbers, relaxedOf, rest
 ghost use Rattle.problem.specs.Held.{faultIn, campaignOf};
 ghost use Rattle.lent.specs.Wide.{wide, laid};
 ghost use Rattle.lent.specs.Led.{led};
-ghost use Rattle.numbers.specs.Whole.{Ready, halfCells};
+ghost use Rattle.numbers.specs.Whole.{Ready, held, halfCells};
 ghost use Rattle.diagram.specs.Answers.{boundedAs, lentOf};
 ghost use Rattle.diagram.specs.Leading.{Led, firstCell, Leads};
 use problem::Problem;
@@ -82,21 +82,68 @@ pub fn cells_need(n: usize, m: usize, w: usize) -> usize
 }
 
 // The asked number of rounds and the closing sweep. Behind a round that drops nothing neither would change anything.
-fn filter(p: Problem, w: usize, rounds: u32, ceiling: i32, arcs: &mut [u8], cells: &mut [i32])
-    requires { ⌜ Ready p w × Within 2000000 ceiling × (now arcs ≡ laid 8 w (built relaxed (campaignOf p) w)) × (now cells ≡ halfCells (campaignOf p) w (downNumbers (campaignOf p) (wide 8 w (built relaxed (campaignOf p) w)))) ⌝ }
-    ensures arcs { λ r. ⌜ now (arcs .exit) ≡ laid 8 w (relaxedArcs (campaignOf p) w rounds ceiling) ⌝ }
-    ensures cells { λ r. ⌜ now (cells .exit) ≡ numberCells (campaignOf p) w (cellsNeed (campaignOf p) w) (relaxedArcs (campaignOf p) w rounds ceiling) ⌝ }
+fn filter<'a>(
+    n: usize,
+    m: usize,
+    sets: &'a [u16; 24],
+    weights: &'a [i32; 24],
+    kinds: &'a [u8; 8],
+    values: &'a [u16; 8],
+    slots: &'a [u32; 8],
+    coefs: &'a [i32; 192],
+    lb: &'a [i32; 8],
+    ub: &'a [i32; 8],
+    w: usize,
+    rounds: u32,
+    ceiling: i32,
+    arcs: &mut [u8],
+    cells: &mut [i32],
+)
+    requires { let p = held n m (now sets) (now weights) (now kinds) (now values) (now slots) (now coefs) (now lb) (now ub) in ⌜ Ready p w × Within 2000000 ceiling × (now arcs ≡ laid 8 w (built relaxed (campaignOf p) w)) × (now cells ≡ halfCells (campaignOf p) w (downNumbers (campaignOf p) (wide 8 w (built relaxed (campaignOf p) w)))) × (length (now sets) ≡ 24) ⌝ }
+    ensures arcs { λ r. let p = held n m (now (sets .entry)) (now (weights .entry)) (now (kinds .entry)) (now (values .entry)) (now (slots .entry)) (now (coefs .entry)) (now (lb .entry)) (now (ub .entry)) in ⌜ now (arcs .exit) ≡ laid 8 w (relaxedArcs (campaignOf p) w rounds ceiling) ⌝ }
+    ensures cells { λ r. let p = held n m (now (sets .entry)) (now (weights .entry)) (now (kinds .entry)) (now (values .entry)) (now (slots .entry)) (now (coefs .entry)) (now (lb .entry)) (now (ub .entry)) in ⌜ now (cells .exit) ≡ numberCells (campaignOf p) w (cellsNeed (campaignOf p) w) (relaxedArcs (campaignOf p) w rounds ceiling) ⌝ }
 {
     let mut k: u32 = 0;
     while k < rounds {
         let known = k == 0;
-        if !numbers::round(p, w, known, ceiling, arcs, cells) {
+        if !numbers::round(
+            n,
+            m,
+            sets,
+            weights,
+            kinds,
+            values,
+            slots,
+            coefs,
+            lb,
+            ub,
+            w,
+            known,
+            ceiling,
+            arcs,
+            cells,
+        ) {
             return;
         }
         k += 1;
     }
     let known = k == 0;
-    numbers::sweep(p, w, known, arcs, cells);
+    numbers::sweep(
+        n,
+        m,
+        sets,
+        weights,
+        kinds,
+        values,
+        slots,
+        coefs,
+        lb,
+        ub,
+        w,
+        known,
+        arcs,
+        cells,
+    );
 }
 
 // The bound that stands in the cells: the sink's cost down, none if the source is absent.
@@ -147,10 +194,34 @@ pub fn relaxed(
     if nine != 0 {
         return refusal(nine);
     }
-    let exact = building::build(p, true, w, arcs, &mut cells[..numbers]);
+    let exact = building::build(
+        n,
+        m,
+        &p.sets,
+        &p.weights,
+        &p.kinds,
+        &p.values,
+        &p.slots,
+        &p.coefs,
+        &p.lb,
+        &p.ub,
+        true,
+        w,
+        arcs,
+        &mut cells[..numbers],
+    );
     rows::zero_cells(&mut cells[numbers..]);
     filter(
-        p,
+        n,
+        m,
+        &p.sets,
+        &p.weights,
+        &p.kinds,
+        &p.values,
+        &p.slots,
+        &p.coefs,
+        &p.lb,
+        &p.ub,
         w,
         rounds,
         ceiling,
@@ -241,9 +312,39 @@ pub fn restricted(
     if nine != 0 {
         return refusal(nine);
     }
-    let exact = building::build(p, false, w, arcs, &mut cells[..numbers]);
+    let exact = building::build(
+        n,
+        m,
+        &p.sets,
+        &p.weights,
+        &p.kinds,
+        &p.values,
+        &p.slots,
+        &p.coefs,
+        &p.lb,
+        &p.ub,
+        false,
+        w,
+        arcs,
+        &mut cells[..numbers],
+    );
     rows::zero_cells(&mut cells[numbers..]);
-    numbers::sweep(p, w, true, &mut arcs[..bytes], &mut cells[..numbers]);
+    numbers::sweep(
+        n,
+        m,
+        &p.sets,
+        &p.weights,
+        &p.kinds,
+        &p.values,
+        &p.slots,
+        &p.coefs,
+        &p.lb,
+        &p.ub,
+        w,
+        true,
+        &mut arcs[..bytes],
+        &mut cells[..numbers],
+    );
     building::zero_bytes(plan);
     if cells[0] != 0 {
         lead(p, w, &arcs[..bytes], &cells[..numbers], plan);

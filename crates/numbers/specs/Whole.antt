@@ -21,6 +21,11 @@ pub record Ready (p : Problem) (w : ℕ) : Type 0 where
   pub some : 1 ≤ w
   pub few : w ≤ 16
 
+-- the problem that has these numbers and arrays
+abbrev pub held : ℕ → ℕ → List ℕ → List ℤ → List ℕ → List ℕ → List ℕ → List ℤ → List ℤ → List ℤ → Problem
+held n m sets weights kinds values slots coefs lb ub =
+    record { n = n; m = m; sets = sets; weights = weights; kinds = kinds; values = values; slots = slots; coefs = coefs; lb = lb; ub = ub }
+
 -- at most eight rules, each bound in its range
 pub record Bounding (m : ℕ) (lbs ubs : List ℤ) : Type 0 where
   pub few : m ≤ 8

@@ -204,7 +204,22 @@ pub fn walk(
     ensures arcs { λ r. ⌜ now (arcs .exit) ≡ laid 8 w (swept (campaignOf p) (arcsIn (campaignOf p) w (now (arcs .entry)))) ⌝ }
     ensures cells { λ r. ⌜ now (cells .exit) ≡ allCells (nodeNeed (campaignOf p)) w (downNumbers (campaignOf p) (arcsIn (campaignOf p) w (now (arcs .entry)))) (upNumbers (campaignOf p) (arcsIn (campaignOf p) w (now (arcs .entry)))) ⌝ }
 {
-    numbers::sweep(p, w, false, arcs, cells);
+    numbers::sweep(
+        p.n,
+        p.m,
+        &p.sets,
+        &p.weights,
+        &p.kinds,
+        &p.values,
+        &p.slots,
+        &p.coefs,
+        &p.lb,
+        &p.ub,
+        w,
+        false,
+        arcs,
+        cells,
+    );
     list(p, w, ceiling, start, arcs, cells, page)
 }
 

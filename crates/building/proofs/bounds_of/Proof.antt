@@ -3,6 +3,7 @@ use mathlib.Core.Path.{refl}
 use Prim.Native.Nat.{_-_}
 use native.Mathlib.Omega.{arith}
 use borrow.Author.Needs.{needs}
+use denote.Ref.{now}
 use Rattle.building.proofs.Bounds.{Bounded, bounded-more, bounded-end}
 use Rattle.rows.proofs.Cells.{turn-fits}
 use Rattle.building.proofs.bounds_of.Statement.{statement}
@@ -20,22 +21,22 @@ loop-holds c = record { right = c .pre; low = omega arith; is = refl }
 mul-lb : tie.Need-mul-lb Inv-loop μ-loop
 mul-lb c = search needs
 
-array-copy-out-lb : tie.Need-array-copy-out-lb Inv-loop μ-loop
-array-copy-out-lb c = omega (arith, c .before .loop .inv .right .few)
+element-copy-out-lb : tie.Need-element-copy-out-lb Inv-loop μ-loop
+element-copy-out-lb c = omega (arith, c .before .loop .inv .right .few)
 
 mul-ub : tie.Need-mul-ub Inv-loop μ-loop
 mul-ub c = search needs
 
-array-copy-out-ub : tie.Need-array-copy-out-ub Inv-loop μ-loop
-array-copy-out-ub c = omega (arith, c .before .before .loop .inv .right .few)
+element-copy-out-ub : tie.Need-element-copy-out-ub Inv-loop μ-loop
+element-copy-out-ub c = omega (arith, c .before .before .loop .inv .right .few)
 
-sub-t16 : tie.Need-sub-t16 Inv-loop μ-loop
-sub-t16 c =
+sub-t14 : tie.Need-sub-t14 Inv-loop μ-loop
+sub-t14 c =
     let l = c .before .before .before .loop in
     turn-fits (l .inv .right .low (l .r) (c .before .before .loop-test .taken)) tt
 
-mul-t13 : tie.Need-mul-t13 Inv-loop μ-loop
-mul-t13 c = search needs
+mul-t11 : tie.Need-mul-t11 Inv-loop μ-loop
+mul-t11 c = search needs
 
 element-set-from-s : tie.Need-element-set-from-s Inv-loop μ-loop
 element-set-from-s c = omega (arith, c .before .before .before .loop .inv .right .few)
@@ -47,10 +48,10 @@ loop-less : tie.Need-loop-less Inv-loop μ-loop
 loop-less c = search needs
 
 loop-again : tie.Need-loop-again Inv-loop μ-loop
-loop-again c = (let a = c .before .before .before .before .args in bounded-more (a .m) (a .t2) (a .t3)) (c .before .before .before .loop .inv) _ (c .before .before .loop-test .taken) refl
+loop-again c = (let a = c .before .before .before .before .args in bounded-more (a .m) (now (a .lbs)) (now (a .ubs))) (c .before .before .before .loop .inv) _ (c .before .before .loop-test .taken) refl
 
 returns : tie.Need-returns Inv-loop μ-loop
-returns c = (let a = c .before .before .args in bounded-end (a .m) (a .t2) (a .t3)) (c .before .loop .inv) (c .loop-test .left)
+returns c = (let a = c .before .before .args in bounded-end (a .m) (now (a .lbs)) (now (a .ubs))) (c .before .loop .inv) (c .loop-test .left)
 
 pub bounds-of-spec : {M : Type 1} → statement M
 bounds-of-spec =
@@ -60,11 +61,11 @@ bounds-of-spec =
     μ-loop
     loop-holds
     mul-lb
-    array-copy-out-lb
+    element-copy-out-lb
     mul-ub
-    array-copy-out-ub
-    sub-t16
-    mul-t13
+    element-copy-out-ub
+    sub-t14
+    mul-t11
     element-set-from-s
     add-r
     loop-less

@@ -1,5 +1,5 @@
 -- `build` meets its contract: a turn builds the layer of one slot, and brings its down numbers to the next.
-use mathlib.Core.Path.{_≡_, refl, sym, ap, _∙_}
+use mathlib.Core.Path.{refl, sym, ap, _∙_}
 use Prim.Native.Nat.{_+_, _-_}
 use native.Mathlib.Omega.{arith}
 use borrow.Author.Needs.{needs}
@@ -7,38 +7,44 @@ use lib.Dec.{eqb}
 use lib.ListN.{length, replicate}
 use lib.IntN.{pos}
 use denote.Ref.{now}
-use Rattle.problem.proofs.Arrays.{long}
+use Rattle.problem.specs.declared.Problem.{Problem}
+use Rattle.numbers.specs.Whole.{Ready, held}
 use Rattle.numbers.proofs.Passes.{few-rules, few-size, spare-start}
 use Rattle.state.specs.Pairs.{pairs, lessened}
-use Rattle.laws.specs.Lists.{padded}
-use Rattle.state.proofs.Joined.{noPair}
 use Rattle.numbers.proofs.Limit.{bounding}
-use Rattle.building.proofs.Bounds.{bounds-said}
-use Rattle.building.proofs.Problems.{Going, ready-of, says, going-start, going-here, going-cells, going-downs, going-slot, going-slot-row, going-taken, going-limit, row-long, going-room, going-layer, places-in, going-room-next, going-last, going-downs-last, going-long, going-next, going-more, going-same, going-end, zeros-long}
+use Rattle.building.proofs.Problems.{Going, says, going-start, going-here, going-cells, going-downs, going-slot, going-slot-row, going-taken, going-limit, row-long, going-room, going-layer, places-in, going-room-next, going-last, going-downs-last, going-long, going-next, going-more, going-same, going-end, zeros-long}
 use Rattle.building.proofs.build.Statement.{statement}
 use Rattle.building.proofs.build.Tie as tie
 
 abbrev Inv-loop : tie.InvT-loop
-Inv-loop relax w arcs₀ cells₀ p n m bytes size bounds table row₀ here₀ spare₀ nodes₀ exact₀ i₀ arcs cells row here spare nodes exact i =
-    Going p relax w (length arcs₀) (pairs bounds) table arcs cells here spare row nodes exact i
+Inv-loop n m sets weights kinds values slots coefs lb ub relax w arcs₀ cells₀ bytes size bounds table row₀ here₀ spare₀ nodes₀ exact₀ i₀ arcs cells row here spare nodes exact i =
+    Going (held n m sets weights kinds values slots coefs lb ub) relax w (length arcs₀) (pairs bounds) table arcs cells here spare row nodes exact i
 
 abbrev μ-loop : tie.MeasureT-loop
-μ-loop relax w arcs₀ cells₀ p n m bytes size bounds table row₀ here₀ spare₀ nodes₀ exact₀ i₀ arcs cells row here spare nodes exact i = p .n - i
+μ-loop n m sets weights kinds values slots coefs lb ub relax w arcs₀ cells₀ bytes size bounds table row₀ here₀ spare₀ nodes₀ exact₀ i₀ arcs cells row here spare nodes exact i = n - i
+
+-- the problem that has these fields
+abbrev whole : tie.Start Inv-loop μ-loop → Problem
+whole s = let a = s .args in held (a .n) (a .m) (now (a .sets)) (now (a .weights)) (now (a .kinds)) (now (a .values)) (now (a .slots)) (now (a .coefs)) (now (a .lb)) (now (a .ub))
+
+-- it has no fault, and the width is in range
+ready : (s : tie.Start Inv-loop μ-loop) → Ready (whole s) (s .args .w)
+ready s = record { right = s .pre .0; some = s .pre .1; few = s .pre .2 }
 
 mul-bytes : tie.Need-mul-bytes Inv-loop μ-loop
 mul-bytes c = omega (arith, c .before .pre .2)
 
 mul-size : tie.Need-mul-size Inv-loop μ-loop
-mul-size c = omega (arith, few-rules {p = c .before .args .t1} {w = c .before .args .w} (ready-of (c .before .pre .0) (c .before .pre .1) (c .before .pre .2)))
+mul-size c = omega (arith, few-rules (ready (c .before)))
 
 add-size : tie.Need-add-size Inv-loop μ-loop
-add-size c = omega (arith, few-rules {p = c .before .args .t1} {w = c .before .args .w} (ready-of (c .before .pre .0) (c .before .pre .1) (c .before .pre .2)))
+add-size c = omega (arith, few-rules (ready (c .before)))
 
 mul-size-2 : tie.Need-mul-size-2 Inv-loop μ-loop
-mul-size-2 c = omega (arith, few-size {p = c .before .args .t1} {w = c .before .args .w} (ready-of (c .before .pre .0) (c .before .pre .1) (c .before .pre .2)))
+mul-size-2 c = omega (arith, few-size (ready (c .before)))
 
 bounds-of-requires : tie.Need-bounds-of-requires Inv-loop μ-loop
-bounds-of-requires c κs = let x = c .before .before .before in bounding (x .args .t1) (x .pre .0)
+bounds-of-requires c κs = bounding (whole (c .before)) (c .before .pre .0)
 
 slice-aggregate-reaches : tie.Need-slice-aggregate-reaches Inv-loop μ-loop
 slice-aggregate-reaches c = refl
@@ -48,9 +54,8 @@ slice-aggregate-reaches-2 c = refl
 
 reaches-requires : tie.Need-reaches-requires Inv-loop μ-loop
 reaches-requires c κs =
-    let x = c .before .before .before .before .before .before .before .before .before .before .before .before in
-    let sets : length (x .args .t1 .sets) ≡ 24 = search long in
-    ((x .args .t1, says (x .args .t1) (x .pre .0)), sets, refl, refl)
+    let x = c .before .before .before .before in
+    ((whole x, says (whole x) (x .pre .0)), x .pre .5, refl, refl)
 
 zero-bytes-requires : tie.Need-zero-bytes-requires Inv-loop μ-loop
 zero-bytes-requires c κs = tt
@@ -60,14 +65,13 @@ one-node-requires c κs = tt
 
 loop-holds : tie.Need-loop-holds Inv-loop μ-loop
 loop-holds c =
-    let x = c .before .before .before .before .before .before .before .before .before .before .before .before .before .before .before .before .before .before .before .before in
-    let p = x .args .t1 in
-    let sets : length (p .sets) ≡ 24 = search long in
-    let bounds = c .before .before .before .before .before .before .before .before .before .before .before .before .before .before .before .before .bounds-of in
+    let x = c .before .before .before .before .before .before .before .before .before .before .before .before in
+    let p = whole x in
+    let bounds = c .before .before .before .before .before .before .before .before .before .before .bounds-of in
     let reached = c .before .before .before .before .before .before .before .reaches in
     let zeros = c .before .before .before .zero-bytes in
     going-start p (x .args .relax) (x .args .w) (pairs (bounds .result)) (reached .last .1 .1 .1 .1 .1 .1 .1 .1 .0) (now (x .args .arcs)) (zeros .last .0) (now (x .args .cells)) (c .one-node .result) (replicate 272 (pos 4000000)) (reached .last .1 .1 .1 .1 .1 .1 .1 .0)
-    (ready-of (x .pre .0) (x .pre .1) (x .pre .2)) sets (x .pre .3) (bounds .ensures ∙ ap (padded 8 noPair) (bounds-said p)) (reached .ensures .0 p (says p (x .pre .0))) (zeros .ensures) (x .pre .4) (c .one-node .ensures) spare-start (reached .ensures .1)
+    (ready x) (x .pre .5) (x .pre .3) (bounds .ensures) (reached .ensures .0 p (says p (x .pre .0))) (zeros .ensures) (x .pre .4) (c .one-node .ensures) spare-start (reached .ensures .1)
 
 slice-aggregate-put-downs : tie.Need-slice-aggregate-put-downs Inv-loop μ-loop
 slice-aggregate-put-downs c = sym (going-here (c .before .before .loop .inv) .long)
@@ -109,30 +113,30 @@ element-copy-out-weight : tie.Need-element-copy-out-weight Inv-loop μ-loop
 element-copy-out-weight c = going-slot (c .before .before .before .before .before .before .loop .inv) (c .before .before .before .before .before .loop-test .taken)
 
 slice-aggregate-slot-row : tie.Need-slice-aggregate-slot-row Inv-loop μ-loop
-slice-aggregate-slot-row c = sym (c .before .before .before .before .before .before .before .before .before .before .before .before .before .loop .inv .slot)
+slice-aggregate-slot-row c = sym (c .before .before .before .before .before .before .before .before .loop .inv .slot)
 
 slot-row-requires : tie.Need-slot-row-requires Inv-loop μ-loop
-slot-row-requires c κs = going-slot-row (c .before .before .before .before .before .before .before .before .before .before .before .before .before .loop .inv) (c .before .before .before .before .before .before .before .before .before .before .before .before .loop-test .taken)
+slot-row-requires c κs = going-slot-row (c .before .before .before .before .before .before .before .before .loop .inv) (c .before .before .before .before .before .before .before .loop-test .taken)
 
 slice-aggregate-taken : tie.Need-slice-aggregate-taken Inv-loop μ-loop
-slice-aggregate-taken c = sym (c .before .before .before .before .before .before .before .before .before .before .before .before .before .before .before .before .loop .inv .reached .long)
+slice-aggregate-taken c = sym (c .before .before .before .before .before .before .before .before .before .before .before .loop .inv .reached .long)
 
 add-taken : tie.Need-add-taken Inv-loop μ-loop
-add-taken c = omega (arith, going-slot (c .before .before .before .before .before .before .before .before .before .before .before .before .before .before .before .before .loop .inv) (c .before .before .before .before .before .before .before .before .before .before .before .before .before .before .before .loop-test .taken))
+add-taken c = omega (arith, going-slot (c .before .before .before .before .before .before .before .before .before .before .before .loop .inv) (c .before .before .before .before .before .before .before .before .before .before .loop-test .taken))
 
 mul-taken : tie.Need-mul-taken Inv-loop μ-loop
-mul-taken c = omega (arith, going-slot (c .before .before .before .before .before .before .before .before .before .before .before .before .before .before .before .before .loop .inv) (c .before .before .before .before .before .before .before .before .before .before .before .before .before .before .before .loop-test .taken))
+mul-taken c = omega (arith, going-slot (c .before .before .before .before .before .before .before .before .before .before .before .loop .inv) (c .before .before .before .before .before .before .before .before .before .before .loop-test .taken))
 
 taken-requires : tie.Need-taken-requires Inv-loop μ-loop
-taken-requires c κs = going-taken (c .before .before .before .before .before .before .before .before .before .before .before .before .before .before .before .before .loop .inv) (c .before .before .before .before .before .before .before .before .before .before .before .before .before .before .before .loop-test .taken)
+taken-requires c κs = going-taken (c .before .before .before .before .before .before .before .before .before .before .before .loop .inv) (c .before .before .before .before .before .before .before .before .before .before .loop-test .taken)
 
 less-requires : tie.Need-less-requires Inv-loop μ-loop
 less-requires c κs =
-    let a = going-limit (c .before .before .before .before .before .before .before .before .before .before .before .before .before .before .before .before .before .loop .inv) (c .before .before .before .before .before .before .before .before .before .before .before .before .before .before .before .before .loop-test .taken) in
+    let a = going-limit (c .before .before .before .before .before .before .before .before .before .before .before .before .loop .inv) (c .before .before .before .before .before .before .before .before .before .before .before .loop-test .taken) in
     (a .0, rw (c .taken .ensures) (a .1))
 
 add-last : tie.Need-add-last Inv-loop μ-loop
-add-last c = omega (arith, going-slot (c .before .before .before .before .before .before .before .before .before .before .before .before .before .before .before .before .before .before .loop .inv) (c .before .before .before .before .before .before .before .before .before .before .before .before .before .before .before .before .before .loop-test .taken))
+add-last c = omega (arith, going-slot (c .before .before .before .before .before .before .before .before .before .before .before .before .before .loop .inv) (c .before .before .before .before .before .before .before .before .before .before .before .before .loop-test .taken))
 
 shares-requires : tie.Need-shares-requires Inv-loop μ-loop
 shares-requires c κs = tt
@@ -141,19 +145,19 @@ places-requires : tie.Need-places-requires Inv-loop μ-loop
 places-requires c κs = tt
 
 slice-aggregate-build-layer : tie.Need-slice-aggregate-build-layer Inv-loop μ-loop
-slice-aggregate-build-layer c = sym (going-here (c .before .before .before .before .before .before .before .before .before .before .before .before .before .before .before .before .before .before .before .before .before .loop .inv) .long)
+slice-aggregate-build-layer c = sym (going-here (c .before .before .before .before .before .before .before .before .before .before .before .before .before .before .before .before .loop .inv) .long)
 
 slice-aggregate-build-layer-2 : tie.Need-slice-aggregate-build-layer-2 Inv-loop μ-loop
-slice-aggregate-build-layer-2 c = sym (row-long (c .before .before .before .before .before .before .before .before .before .before .before .before .before .before .before .before .before .before .before .before .before .before .loop .inv) (c .before .before .before .before .before .before .before .before .before .before .before .before .before .before .before .before .before .before .before .before .before .loop-test .taken) (c .before .before .before .before .before .before .before .before .slot-row .ensures))
+slice-aggregate-build-layer-2 c = sym (row-long (c .before .before .before .before .before .before .before .before .before .before .before .before .before .before .before .before .before .loop .inv) (c .before .before .before .before .before .before .before .before .before .before .before .before .before .before .before .before .loop-test .taken) (c .before .before .before .before .before .before .before .before .slot-row .ensures))
 
 mul-build-layer : tie.Need-mul-build-layer Inv-loop μ-loop
-mul-build-layer c = omega (arith, going-room (c .before .before .before .before .before .before .before .before .before .before .before .before .before .before .before .before .before .before .before .before .before .before .loop .inv) (c .before .before .before .before .before .before .before .before .before .before .before .before .before .before .before .before .before .before .before .before .before .loop-test .taken))
+mul-build-layer c = omega (arith, going-room (c .before .before .before .before .before .before .before .before .before .before .before .before .before .before .before .before .before .loop .inv) (c .before .before .before .before .before .before .before .before .before .before .before .before .before .before .before .before .loop-test .taken))
 
 mul-build-layer-2 : tie.Need-mul-build-layer-2 Inv-loop μ-loop
-mul-build-layer-2 c = omega (arith, going-room (c .before .before .before .before .before .before .before .before .before .before .before .before .before .before .before .before .before .before .before .before .before .before .loop .inv) (c .before .before .before .before .before .before .before .before .before .before .before .before .before .before .before .before .before .before .before .before .before .loop-test .taken))
+mul-build-layer-2 c = omega (arith, going-room (c .before .before .before .before .before .before .before .before .before .before .before .before .before .before .before .before .before .loop .inv) (c .before .before .before .before .before .before .before .before .before .before .before .before .before .before .before .before .loop-test .taken))
 
 add-build-layer : tie.Need-add-build-layer Inv-loop μ-loop
-add-build-layer c = omega (arith, going-room (c .before .before .before .before .before .before .before .before .before .before .before .before .before .before .before .before .before .before .before .before .before .before .loop .inv) (c .before .before .before .before .before .before .before .before .before .before .before .before .before .before .before .before .before .before .before .before .before .loop-test .taken))
+add-build-layer c = omega (arith, going-room (c .before .before .before .before .before .before .before .before .before .before .before .before .before .before .before .before .before .loop .inv) (c .before .before .before .before .before .before .before .before .before .before .before .before .before .before .before .before .loop-test .taken))
 
 sub-build-layer : tie.Need-sub-build-layer Inv-loop μ-loop
 sub-build-layer c = search needs
@@ -162,28 +166,29 @@ part-build-layer-start : tie.Need-part-build-layer-start Inv-loop μ-loop
 part-build-layer-start c = search needs
 
 part-build-layer-end : tie.Need-part-build-layer-end Inv-loop μ-loop
-part-build-layer-end c = omega (arith, going-room (c .before .before .before .before .before .before .before .before .before .before .before .before .before .before .before .before .before .before .before .before .before .before .loop .inv) (c .before .before .before .before .before .before .before .before .before .before .before .before .before .before .before .before .before .before .before .before .before .loop-test .taken))
+part-build-layer-end c = omega (arith, going-room (c .before .before .before .before .before .before .before .before .before .before .before .before .before .before .before .before .before .loop .inv) (c .before .before .before .before .before .before .before .before .before .before .before .before .before .before .before .before .loop-test .taken))
 
 build-layer-requires : tie.Need-build-layer-requires Inv-loop μ-loop
 build-layer-requires c κs =
-    let a = going-layer (c .before .before .before .before .before .before .before .before .before .before .before .before .before .before .before .before .before .before .before .before .before .before .before .loop .inv) (c .before .before .before .before .before .before .before .before .before .before .before .before .before .before .before .before .before .before .before .before .before .before .loop-test .taken) (c .before .before .before .before .before .before .before .before .before .slot-row .ensures) in
-    let p = places-in (c .before .before .before .before .before .before .before .before .before .before .before .before .before .before .before .before .before .before .before .before .before .before .before .loop .inv) (eqb (c .before .before .before .before .before .before .before .before .before .before .before .before .before .before .before .before .before .before .before .before .before .before .before .loop .i + 1) (c .before .before .before .before .before .before .before .before .before .before .before .before .before .before .before .before .before .before .before .before .before .before .before .before .before .before .before .before .before .before .before .before .before .before .before .before .before .before .before .before .before .before .before .before .args .t1 .n)) (c .before .before .before .places .ensures) in
+    let s = c .before .before .before .before .before .before .before .before .before .before .before .before .before .before .before .before .before .before .before .before .before .before .before .before .before .before .before .before .before .before .before in
+    let a = going-layer {p = whole s} (c .before .before .before .before .before .before .before .before .before .before .before .before .before .before .before .before .before .before .loop .inv) (c .before .before .before .before .before .before .before .before .before .before .before .before .before .before .before .before .before .loop-test .taken) (c .before .before .before .before .before .before .before .before .before .slot-row .ensures) in
+    let p = places-in {p = whole s} (c .before .before .before .before .before .before .before .before .before .before .before .before .before .before .before .before .before .before .loop .inv) (eqb (c .before .before .before .before .before .before .before .before .before .before .before .before .before .before .before .before .before .before .loop .i + 1) (s .args .n)) (c .before .before .before .places .ensures) in
     (a .0, a .1, p .0, p .1, a .2)
 
 slice-aggregate-next-down : tie.Need-slice-aggregate-next-down Inv-loop μ-loop
-slice-aggregate-next-down c = sym (row-long (c .before .before .before .before .before .before .before .before .before .before .before .before .before .before .before .before .before .before .before .before .before .before .before .before .before .before .before .loop .inv) (c .before .before .before .before .before .before .before .before .before .before .before .before .before .before .before .before .before .before .before .before .before .before .before .before .before .before .loop-test .taken) (c .before .before .before .before .before .before .before .before .before .before .before .before .before .slot-row .ensures))
+slice-aggregate-next-down c = sym (row-long (c .before .before .before .before .before .before .before .before .before .before .before .before .before .before .before .before .before .before .before .before .before .before .loop .inv) (c .before .before .before .before .before .before .before .before .before .before .before .before .before .before .before .before .before .before .before .before .before .loop-test .taken) (c .before .before .before .before .before .before .before .before .before .before .before .before .before .slot-row .ensures))
 
 slice-aggregate-next-down-2 : tie.Need-slice-aggregate-next-down-2 Inv-loop μ-loop
-slice-aggregate-next-down-2 c = sym (going-here (c .before .before .before .before .before .before .before .before .before .before .before .before .before .before .before .before .before .before .before .before .before .before .before .before .before .before .before .before .loop .inv) .long)
+slice-aggregate-next-down-2 c = sym (going-here (c .before .before .before .before .before .before .before .before .before .before .before .before .before .before .before .before .before .before .before .before .before .before .before .loop .inv) .long)
 
 mul-next-down : tie.Need-mul-next-down Inv-loop μ-loop
-mul-next-down c = omega (arith, going-room (c .before .before .before .before .before .before .before .before .before .before .before .before .before .before .before .before .before .before .before .before .before .before .before .before .before .before .before .before .loop .inv) (c .before .before .before .before .before .before .before .before .before .before .before .before .before .before .before .before .before .before .before .before .before .before .before .before .before .before .before .loop-test .taken))
+mul-next-down c = omega (arith, going-room (c .before .before .before .before .before .before .before .before .before .before .before .before .before .before .before .before .before .before .before .before .before .before .before .loop .inv) (c .before .before .before .before .before .before .before .before .before .before .before .before .before .before .before .before .before .before .before .before .before .before .loop-test .taken))
 
 mul-next-down-2 : tie.Need-mul-next-down-2 Inv-loop μ-loop
-mul-next-down-2 c = omega (arith, going-room (c .before .before .before .before .before .before .before .before .before .before .before .before .before .before .before .before .before .before .before .before .before .before .before .before .before .before .before .before .loop .inv) (c .before .before .before .before .before .before .before .before .before .before .before .before .before .before .before .before .before .before .before .before .before .before .before .before .before .before .before .loop-test .taken))
+mul-next-down-2 c = omega (arith, going-room (c .before .before .before .before .before .before .before .before .before .before .before .before .before .before .before .before .before .before .before .before .before .before .before .loop .inv) (c .before .before .before .before .before .before .before .before .before .before .before .before .before .before .before .before .before .before .before .before .before .before .loop-test .taken))
 
 add-next-down : tie.Need-add-next-down Inv-loop μ-loop
-add-next-down c = omega (arith, going-room (c .before .before .before .before .before .before .before .before .before .before .before .before .before .before .before .before .before .before .before .before .before .before .before .before .before .before .before .before .loop .inv) (c .before .before .before .before .before .before .before .before .before .before .before .before .before .before .before .before .before .before .before .before .before .before .before .before .before .before .before .loop-test .taken))
+add-next-down c = omega (arith, going-room (c .before .before .before .before .before .before .before .before .before .before .before .before .before .before .before .before .before .before .before .before .before .before .before .loop .inv) (c .before .before .before .before .before .before .before .before .before .before .before .before .before .before .before .before .before .before .before .before .before .before .loop-test .taken))
 
 sub-next-down : tie.Need-sub-next-down Inv-loop μ-loop
 sub-next-down c = search needs
@@ -192,13 +197,13 @@ part-next-down-start : tie.Need-part-next-down-start Inv-loop μ-loop
 part-next-down-start c = search needs
 
 part-next-down-end : tie.Need-part-next-down-end Inv-loop μ-loop
-part-next-down-end c = going-room-next (c .before .before .before .before .before .before .before .before .before .before .before .before .before .before .before .before .before .before .before .before .before .before .before .before .before .before .before .before .before .loop .inv) (c .before .before .before .before .before .before .before .before .before .before .before .before .before .before .before .before .before .before .before .before .before .before .before .before .before .before .before .before .loop-test .taken) (c .before .before .before .before .before .before .before .before .before .before .before .before .before .before .before .slot-row .ensures) (c .before .before .before .before .before .before .before .before .before .before .before .less .ensures ∙ ap (lessened (pairs (c .before .before .before .before .before .before .before .before .before .before .before .before .before .before .before .before .before .before .before .before .before .before .before .before .before .before .before .before .before .before .before .before .before .before .before .before .before .before .before .before .before .before .before .before .before .before .bounds-of .result))) (c .before .before .before .before .before .before .before .before .before .before .before .before .taken .ensures)) (c .before .before .before .before .before .before .before .before .before .before .shares .ensures) (c .before .before .before .before .before .before .before .before .before .places .ensures) (c .before .before .before .before .before .build-layer .ensures)
+part-next-down-end c = going-room-next (c .before .before .before .before .before .before .before .before .before .before .before .before .before .before .before .before .before .before .before .before .before .before .before .before .loop .inv) (c .before .before .before .before .before .before .before .before .before .before .before .before .before .before .before .before .before .before .before .before .before .before .before .loop-test .taken) (c .before .before .before .before .before .before .before .before .before .before .before .before .before .before .before .slot-row .ensures) (c .before .before .before .before .before .before .before .before .before .before .before .less .ensures ∙ ap (lessened (pairs (c .before .before .before .before .before .before .before .before .before .before .before .before .before .before .before .before .before .before .before .before .before .before .before .before .before .before .before .before .before .before .before .before .before .before .before .bounds-of .result))) (c .before .before .before .before .before .before .before .before .before .before .before .before .taken .ensures)) (c .before .before .before .before .before .before .before .before .before .before .shares .ensures) (c .before .before .before .before .before .before .before .before .before .places .ensures) (c .before .before .before .before .before .build-layer .ensures)
 
 slice-aggregate-next-down-3 : tie.Need-slice-aggregate-next-down-3 Inv-loop μ-loop
-slice-aggregate-next-down-3 c = sym (c .before .before .before .before .before .before .before .before .before .before .before .before .before .before .before .before .before .before .before .before .before .before .before .before .before .before .before .before .before .before .before .loop .inv .room .long)
+slice-aggregate-next-down-3 c = sym (c .before .before .before .before .before .before .before .before .before .before .before .before .before .before .before .before .before .before .before .before .before .before .before .before .before .before .loop .inv .room .long)
 
 next-down-requires : tie.Need-next-down-requires Inv-loop μ-loop
-next-down-requires c κs = going-next (c .before .before .before .before .before .before .before .before .before .before .before .before .before .before .before .before .before .before .before .before .before .before .before .before .before .before .before .before .before .before .before .loop .inv) (c .before .before .before .before .before .before .before .before .before .before .before .before .before .before .before .before .before .before .before .before .before .before .before .before .before .before .before .before .before .before .loop-test .taken) (c .before .before .before .before .before .before .before .before .before .before .before .before .before .before .before .before .before .slot-row .ensures) (c .before .before .before .before .before .before .before .before .before .before .before .before .before .less .ensures ∙ ap (lessened (pairs (c .before .before .before .before .before .before .before .before .before .before .before .before .before .before .before .before .before .before .before .before .before .before .before .before .before .before .before .before .before .before .before .before .before .before .before .before .before .before .before .before .before .before .before .before .before .before .before .before .bounds-of .result))) (c .before .before .before .before .before .before .before .before .before .before .before .before .before .before .taken .ensures)) (c .before .before .before .before .before .before .before .before .before .before .before .before .shares .ensures) (c .before .before .before .before .before .before .before .before .before .before .before .places .ensures) (c .before .before .before .before .before .before .before .build-layer .ensures)
+next-down-requires c κs = going-next (c .before .before .before .before .before .before .before .before .before .before .before .before .before .before .before .before .before .before .before .before .before .before .before .before .before .before .loop .inv) (c .before .before .before .before .before .before .before .before .before .before .before .before .before .before .before .before .before .before .before .before .before .before .before .before .before .loop-test .taken) (c .before .before .before .before .before .before .before .before .before .before .before .before .before .before .before .before .before .slot-row .ensures) (c .before .before .before .before .before .before .before .before .before .before .before .before .before .less .ensures ∙ ap (lessened (pairs (c .before .before .before .before .before .before .before .before .before .before .before .before .before .before .before .before .before .before .before .before .before .before .before .before .before .before .before .before .before .before .before .before .before .before .before .before .before .bounds-of .result))) (c .before .before .before .before .before .before .before .before .before .before .before .before .before .before .taken .ensures)) (c .before .before .before .before .before .before .before .before .before .before .before .before .shares .ensures) (c .before .before .before .before .before .before .before .before .before .before .before .places .ensures) (c .before .before .before .before .before .before .before .build-layer .ensures)
 
 least-requires : tie.Need-least-requires Inv-loop μ-loop
 least-requires c κs = tt
@@ -207,15 +212,15 @@ still-requires : tie.Need-still-requires Inv-loop μ-loop
 still-requires c κs = tt
 
 add-i : tie.Need-add-i Inv-loop μ-loop
-add-i c = omega (arith, going-slot (c .before .before .before .before .before .before .before .before .before .before .before .before .before .before .before .before .before .before .before .before .before .before .before .before .before .before .before .before .before .before .before .before .before .before .before .before .loop .inv) (c .before .before .before .before .before .before .before .before .before .before .before .before .before .before .before .before .before .before .before .before .before .before .before .before .before .before .before .before .before .before .before .before .before .before .before .loop-test .taken))
+add-i c = omega (arith, going-slot (c .before .before .before .before .before .before .before .before .before .before .before .before .before .before .before .before .before .before .before .before .before .before .before .before .before .before .before .before .before .before .before .loop .inv) (c .before .before .before .before .before .before .before .before .before .before .before .before .before .before .before .before .before .before .before .before .before .before .before .before .before .before .before .before .before .before .loop-test .taken))
 
 loop-less : tie.Need-loop-less Inv-loop μ-loop
-loop-less c = omega (arith, c .before .before .before .before .before .before .before .before .before .before .before .before .before .before .before .before .before .before .before .before .before .before .before .before .before .before .before .before .before .before .before .before .before .before .before .loop-test .taken)
+loop-less c = omega (arith, c .before .before .before .before .before .before .before .before .before .before .before .before .before .before .before .before .before .before .before .before .before .before .before .before .before .before .before .before .before .before .loop-test .taken)
 
 loop-again : tie.Need-loop-again Inv-loop μ-loop
 loop-again c =
-    going-more (c .before .before .before .before .before .before .before .before .before .before .before .before .before .before .before .before .before .before .before .before .before .before .before .before .before .before .before .before .before .before .before .before .before .before .before .before .loop .inv) (c .before .before .before .before .before .before .before .before .before .before .before .before .before .before .before .before .before .before .before .before .before .before .before .before .before .before .before .before .before .before .before .before .before .before .before .loop-test .taken) (c .before .before .before .before .before .before .before .before .before .before .before .before .before .before .before .before .before .before .before .before .before .before .slot-row .ensures) (c .before .before .before .before .before .before .before .before .before .before .before .before .before .before .before .before .before .before .less .ensures ∙ ap (lessened (pairs (c .before .before .before .before .before .before .before .before .before .before .before .before .before .before .before .before .before .before .before .before .before .before .before .before .before .before .before .before .before .before .before .before .before .before .before .before .before .before .before .before .before .before .before .before .before .before .before .before .before .before .before .before .before .bounds-of .result))) (c .before .before .before .before .before .before .before .before .before .before .before .before .before .before .before .before .before .before .before .taken .ensures)) (c .before .before .before .before .before .before .before .before .before .before .before .before .before .before .before .before .before .shares .ensures) (c .before .before .before .before .before .before .before .before .before .before .before .before .before .before .before .before .places .ensures) (c .before .before .before .before .before .before .before .before .before .before .before .before .build-layer .ensures) (c .before .least .result) (c .still .result)
-    (c .before .before .before .before .before .before .before .before .before .before .before .before .before .before .before .before .before .before .before .before .before .before .before .before .before .before .before .before .before .before .before .before .put-downs .ensures) refl (c .before .before .before .before .next-down .ensures .0) (c .before .before .before .before .next-down .ensures .1) (c .before .least .ensures) (c .still .ensures)
+    going-more (c .before .before .before .before .before .before .before .before .before .before .before .before .before .before .before .before .before .before .before .before .before .before .before .before .before .before .before .before .before .before .before .loop .inv) (c .before .before .before .before .before .before .before .before .before .before .before .before .before .before .before .before .before .before .before .before .before .before .before .before .before .before .before .before .before .before .loop-test .taken) (c .before .before .before .before .before .before .before .before .before .before .before .before .before .before .before .before .before .before .before .before .before .before .slot-row .ensures) (c .before .before .before .before .before .before .before .before .before .before .before .before .before .before .before .before .before .before .less .ensures ∙ ap (lessened (pairs (c .before .before .before .before .before .before .before .before .before .before .before .before .before .before .before .before .before .before .before .before .before .before .before .before .before .before .before .before .before .before .before .before .before .before .before .before .before .before .before .before .before .before .bounds-of .result))) (c .before .before .before .before .before .before .before .before .before .before .before .before .before .before .before .before .before .before .before .taken .ensures)) (c .before .before .before .before .before .before .before .before .before .before .before .before .before .before .before .before .before .shares .ensures) (c .before .before .before .before .before .before .before .before .before .before .before .before .before .before .before .before .places .ensures) (c .before .before .before .before .before .before .before .before .before .before .before .before .build-layer .ensures) (c .before .least .result) (c .still .result)
+    (c .before .before .before .before .before .before .before .before .before .before .before .before .before .before .before .before .before .before .before .before .before .before .before .before .before .before .before .put-downs .ensures) refl (c .before .before .before .before .next-down .ensures .0) (c .before .before .before .before .next-down .ensures .1) (c .before .least .ensures) (c .still .ensures)
 
 slice-aggregate-put-downs-2 : tie.Need-slice-aggregate-put-downs-2 Inv-loop μ-loop
 slice-aggregate-put-downs-2 c = sym (going-here (c .before .before .loop .inv) .long)
@@ -245,15 +250,16 @@ put-downs-requires-2 : tie.Need-put-downs-requires-2 Inv-loop μ-loop
 put-downs-requires-2 c κs = going-downs-last (c .before .before .before .loop .inv) (c .before .before .loop-test .left)
 
 same-length : tie.Need-same-length Inv-loop μ-loop
-same-length c = going-long (c .before .before .before .before .before .loop .inv) ∙ zeros-long (length (now (c .before .before .before .before .before .before .before .before .before .before .before .before .before .before .before .before .before .before .before .before .before .before .before .before .before .before .args .arcs))) (c .before .before .before .before .before .before .before .before .before .zero-bytes .ensures)
+same-length c = going-long (c .before .before .before .before .before .loop .inv) ∙ zeros-long (length (now (c .before .before .before .before .before .before .before .before .before .before .before .before .before .before .before .before .before .before .args .arcs))) (c .before .before .before .before .before .before .before .before .before .zero-bytes .ensures)
 
 same-length-2 : tie.Need-same-length-2 Inv-loop μ-loop
-same-length-2 c = going-same (c .before .before .before .before .before .loop .inv) (c .before .before .before .before .before .before .before .before .before .before .before .before .before .before .before .before .before .before .before .before .before .before .before .before .before .before .pre .4) (c .before .put-downs2 .ensures)
+same-length-2 c = going-same (c .before .before .before .before .before .loop .inv) (c .before .before .before .before .before .before .before .before .before .before .before .before .before .before .before .before .before .before .pre .4) (c .before .put-downs2 .ensures)
 
 returns : tie.Need-returns Inv-loop μ-loop
 returns c =
-    let n = length (now (c .before .before .before .before .before .before .before .before .before .before .before .before .before .before .before .before .before .before .before .before .before .before .before .before .before .before .args .arcs)) in
-    let e = going-end (c .before .before .before .before .before .loop .inv) n (zeros-long n (c .before .before .before .before .before .before .before .before .before .zero-bytes .ensures)) (c .before .before .before .before .loop-test .left) (c .before .put-downs2 .ensures) in
+    let s = c .before .before .before .before .before .before .before .before .before .before .before .before .before .before .before .before .before .before in
+    let n = length (now (s .args .arcs)) in
+    let e = going-end {p = whole s} (c .before .before .before .before .before .loop .inv) n (zeros-long n (c .before .before .before .before .before .before .before .before .before .zero-bytes .ensures)) (c .before .before .before .before .loop-test .left) (c .before .put-downs2 .ensures) in
     (e .0, (e .1, e .2))
 
 pub build-spec : {M : Type 1} → statement M

@@ -2,11 +2,14 @@
 use mathlib.Core.Path.{_≡_, sym, ap, _∙_}
 use mathlib.Core.List.{List, []}
 use mathlib.Core.Bool.{Bool, true, not}
+use Prim.Native.Nat.{_*_}
 use native.Mathlib.Omega.{arith}
 use borrow.Author.Needs.{needs}
 use borrow.Author.Tests.{not-true, not-false}
 use lib.ListN.{length}
 use lib.IntN.{ℤ}
+use mir.Syntax.{w64}
+use mir.Val.{Fits}
 use mir.Facts.{toZ-ofZ}
 use Rattle.laws.specs.Z.{back, back-within}
 use Rattle.meaning.specs.Problem.{version1}
@@ -34,16 +37,16 @@ abbrev wrong : tie.Start → Bool
 wrong s = wrongNumbers (s .args .width) (s .args .rounds) (s .args .ceiling)
 
 abbrev short : tie.Start → Bool
-short s = shortDiagram (campaignOf (s .args .p)) (s .args .width) (lent s)
+short s = shortDiagram (campaignOf (s .args .t1)) (s .args .width) (lent s)
 
 abbrev done : tie.Start → Done Bound
-done s = relaxedDone (campaignOf (s .args .p)) (s .args .width) (s .args .rounds) (s .args .ceiling) (lent s)
+done s = relaxedDone (campaignOf (s .args .t1)) (s .args .width) (s .args .rounds) (s .args .ceiling) (lent s)
 
 abbrev answer : tie.Start → Done Bound
-answer s = relaxedOf (campaignOf (s .args .p)) (s .args .width) (s .args .rounds) (s .args .ceiling) (lent s)
+answer s = relaxedOf (campaignOf (s .args .t1)) (s .args .width) (s .args .rounds) (s .args .ceiling) (lent s)
 
 abbrev running : tie.Start → List ℤ
-running s = relaxedNumbers (campaignOf (s .args .p)) (s .args .width) (s .args .rounds) (s .args .ceiling)
+running s = relaxedNumbers (campaignOf (s .args .t1)) (s .args .width) (s .args .rounds) (s .args .ceiling)
 
 -- the test of the numbers
 tested : (c : tie.After-numbers-are-right) → c .numbers-are-right .result ≡ not (wrong (c .before .before))
@@ -70,13 +73,13 @@ arcs-need-requires : tie.Need-arcs-need-requires
 arcs-need-requires c κs =
     let s = c .before .before .before in
     let a = s .args in
-    (right version1 (a .p) (s .pre) .head .most, numbers-right (a .width) (a .rounds) (a .ceiling) (numbers c) .1)
+    (right version1 (a .t1) (s .pre) .head .most, numbers-right (a .width) (a .rounds) (a .ceiling) (numbers c) .1)
 
 cells-need-requires : tie.Need-cells-need-requires
 cells-need-requires c κs =
     let s = c .before .before .before .before in
     let a = s .args in
-    let head = right version1 (a .p) (s .pre) .head in
+    let head = right version1 (a .t1) (s .pre) .head in
     (head .most, head .rules, numbers-right (a .width) (a .rounds) (a .ceiling) (numbers (c .before)) .1)
 
 refusal-requires-2 : tie.Need-refusal-requires-2
@@ -85,10 +88,10 @@ refusal-requires-2 c κs = search needs
 returns-2 : tie.Need-returns-2
 returns-2 c =
     let s = c .before .before .before .before .before .before .before in
-    let q = campaignOf (s .args .p) in
+    let q = campaignOf (s .args .t1) in
     let w = s .args .width in
-    let sets : length (s .args .p .sets) ≡ 24 = search long in
-    let less = short-arcs q w (lent s) (omega (arith, c .before .if2 .taken, c .before .before .before .arcs-need .ensures, arcs-need (s .args .p) (s .pre) sets w)) in
+    let sets : length (s .args .t1 .sets) ≡ 24 = search long in
+    let less = short-arcs q w (lent s) (omega (arith, c .before .if2 .taken, c .before .before .before .arcs-need .ensures, arcs-need (s .args .t1) (s .pre) sets w)) in
     let e = refused-11 (wrong s) (short s) (running s) (noBound (lent s)) (done s) (not-true _ (numbers (c .before .before .before .before))) less in
     (c .refusal2 .ensures ∙ ap (λ x. boundedAs (x .answer)) (sym e), (ap (λ x. x .lent .arcs) (sym e), ap (λ x. x .lent .cells) (sym e)))
 
@@ -98,32 +101,36 @@ refusal-requires-3 c κs = search needs
 returns-3 : tie.Need-returns-3
 returns-3 c =
     let s = c .before .before .before .before .before .before .before .before in
-    let q = campaignOf (s .args .p) in
+    let q = campaignOf (s .args .t1) in
     let w = s .args .width in
-    let sets : length (s .args .p .sets) ≡ 24 = search long in
-    let less = short-cells q w (lent s) (omega (arith, c .before .if3 .taken, c .before .before .before .cells-need .ensures, cells-need (s .args .p) (s .pre) sets w)) in
+    let sets : length (s .args .t1 .sets) ≡ 24 = search long in
+    let less = short-cells q w (lent s) (omega (arith, c .before .if3 .taken, c .before .before .before .cells-need .ensures, cells-need (s .args .t1) (s .pre) sets w)) in
     let e = refused-11 (wrong s) (short s) (running s) (noBound (lent s)) (done s) (not-true _ (numbers (c .before .before .before .before .before))) less in
     (c .refusal3 .ensures ∙ ap (λ x. boundedAs (x .answer)) (sym e), (ap (λ x. x .lent .arcs) (sym e), ap (λ x. x .lent .cells) (sym e)))
 
 -- the buffers have room
-opened : (c : tie.Else3) → Open (c .before .before .before .before .before .before .before .args .p) (c .before .before .before .before .before .before .before .args .width) (c .before .before .before .before .before .before .before .args .arcs .now) (c .before .before .before .before .before .before .before .args .cells .now)
+opened : (c : tie.Else3) → Open (c .before .before .before .before .before .before .before .args .t1) (c .before .before .before .before .before .before .before .args .width) (c .before .before .before .before .before .before .before .args .arcs .now) (c .before .before .before .before .before .before .before .args .cells .now)
 opened c =
     let s = c .before .before .before .before .before .before .before in
     let a = s .args in
     let right = numbers-right (a .width) (a .rounds) (a .ceiling) (numbers (c .before .before .before .before)) in
-    let sets : length (a .p .sets) ≡ 24 = search long in
+    let sets : length (a .t1 .sets) ≡ 24 = search long in
     record {
       ready = record { right = s .pre; some = right .0; few = right .1 };
       long = sets;
-      bytes = omega (arith, c .before .if2 .left, c .before .before .before .arcs-need .ensures, arcs-need (a .p) (s .pre) sets (a .width));
-      room = omega (arith, c .if3 .left, c .before .before .cells-need .ensures, cells-need (a .p) (s .pre) sets (a .width));
+      bytes = omega (arith, c .before .if2 .left, c .before .before .before .arcs-need .ensures, arcs-need (a .t1) (s .pre) sets (a .width));
+      room = omega (arith, c .if3 .left, c .before .before .cells-need .ensures, cells-need (a .t1) (s .pre) sets (a .width));
     }
 
-bytes-need : (c : tie.Else3) → c .before .before .before .arcs-need .result ≡ arcsNeed (campaignOf (c .before .before .before .before .before .before .before .args .p)) (c .before .before .before .before .before .before .before .args .width)
-bytes-need c = let s = c .before .before .before .before .before .before .before in c .before .before .before .arcs-need .ensures ∙ arcs-need (s .args .p) (s .pre) (opened c .long) (s .args .width)
+bytes-need : (c : tie.Else3) → c .before .before .before .arcs-need .result ≡ arcsNeed (campaignOf (c .before .before .before .before .before .before .before .args .t1)) (c .before .before .before .before .before .before .before .args .width)
+bytes-need c = let s = c .before .before .before .before .before .before .before in c .before .before .before .arcs-need .ensures ∙ arcs-need (s .args .t1) (s .pre) (opened c .long) (s .args .width)
 
-numbers-need : (c : tie.Else3) → c .before .before .cells-need .result ≡ cellsNeed (campaignOf (c .before .before .before .before .before .before .before .args .p)) (c .before .before .before .before .before .before .before .args .width)
-numbers-need c = let s = c .before .before .before .before .before .before .before in c .before .before .cells-need .ensures ∙ cells-need (s .args .p) (s .pre) (opened c .long) (s .args .width)
+numbers-need : (c : tie.Else3) → c .before .before .cells-need .result ≡ cellsNeed (campaignOf (c .before .before .before .before .before .before .before .args .t1)) (c .before .before .before .before .before .before .before .args .width)
+numbers-need c = let s = c .before .before .before .before .before .before .before in c .before .before .cells-need .ensures ∙ cells-need (s .args .t1) (s .pre) (opened c .long) (s .args .width)
+
+-- the bytes of the cells that are needed can be counted
+need-fits : (c : tie.Else3) → Fits w64 (c .before .before .cells-need .result * 4)
+need-fits c = search needs
 
 guard-of-requires : tie.Need-guard-of-requires
 guard-of-requires c κs = search needs
@@ -134,22 +141,22 @@ refusal-requires-4 c κs = search needs
 returns-4 : tie.Need-returns-4
 returns-4 c =
     let s = c .before .before .before .before .before .before .before .before .before .before in
-    absurd (c .before .if4 .taken (c .before .before .guard-of .ensures ∙ no-guard (s .args .p) (s .pre)))
+    absurd (c .before .if4 .taken (c .before .before .guard-of .ensures ∙ no-guard (s .args .t1) (s .pre)))
 
 slice-relend-prefix-build : tie.Need-slice-relend-prefix-build
 slice-relend-prefix-build c = search needs
 
 slice-aggregate-build : tie.Need-slice-aggregate-build
-slice-aggregate-build c = let e = c .before .before .before .before in sym (part-long (opened e) (numbers-need e))
+slice-aggregate-build c = let e = c .before .before .before .before .before .before .before .before .before .before .before .before .before in sym (part-long (opened e) (numbers-need e))
 
 build-requires : tie.Need-build-requires
 build-requires c κs =
-    let e = c .before .before .before .before in
+    let e = c .before .before .before .before .before .before .before .before .before .before .before .before .before in
     let o = opened e in
-    (o .ready .right, o .ready .some, o .ready .few, o .bytes, part-long o (numbers-need e) ∙ numbers-need e)
+    (o .ready .right, o .ready .some, o .ready .few, o .bytes, part-long o (numbers-need e) ∙ numbers-need e, o .long)
 
 mul-zero-cells : tie.Need-mul-zero-cells
-mul-zero-cells c = search needs
+mul-zero-cells c = need-fits (c .before .before .before .before .before .before .before .before .before .before .before .before .before .before .before .before .before)
 
 sub-zero-cells : tie.Need-sub-zero-cells
 sub-zero-cells c = search needs
@@ -167,34 +174,35 @@ slice-relend-prefix-filter : tie.Need-slice-relend-prefix-filter
 slice-relend-prefix-filter c = search needs
 
 slice-aggregate-filter : tie.Need-slice-aggregate-filter
-slice-aggregate-filter c = let e = c .before .before .before .before .before .before .before .before .before .before .before .before in front-long (opened e) (bytes-need e) relaxed _ (c .before .before .before .before .before .before .before .build .ensures .0)
+slice-aggregate-filter c = let e = c .before .before .before .before .before .before .before .before .before .before .before .before .before .before .before .before .before .before .before .before .before .before .before .before .before .before .before .before .before .before in front-long (opened e) (bytes-need e) relaxed _ (c .before .before .before .before .before .before .before .before .before .before .before .before .before .before .before .before .build .ensures .0)
 
 slice-relend-prefix-filter-2 : tie.Need-slice-relend-prefix-filter-2
 slice-relend-prefix-filter-2 c = search needs
 
 slice-aggregate-filter-2 : tie.Need-slice-aggregate-filter-2
-slice-aggregate-filter-2 c = let e = c .before .before .before .before .before .before .before .before .before .before .before .before .before in let b = c .before .before .before .before .before .before .before .before .build in cells-need-long (opened e) (numbers-need e) (b .last .1 .1 .1 .1 .0) (b .kept .1 .1 .1 .1 .0) _
+slice-aggregate-filter-2 c = let e = c .before .before .before .before .before .before .before .before .before .before .before .before .before .before .before .before .before .before .before .before .before .before .before .before .before .before .before .before .before .before .before in let b = c .before .before .before .before .before .before .before .before .before .before .before .before .before .before .before .before .before .build in cells-need-long (opened e) (numbers-need e) (b .last .1 .1 .1 .1 .1 .1 .1 .1 .1 .1 .1 .1 .1 .0) (b .kept .1 .1 .1 .1 .1 .1 .1 .1 .1 .1 .1 .1 .1 .0) _
 
 filter-requires : tie.Need-filter-requires
 filter-requires c κs =
-    let e = c .before .before .before .before .before .before .before .before .before .before .before .before .before in
-    let a = c .before .before .before .before .before .before .before .before .before .before .before .before .before .before .before .before .before .before .before .before .args in
+    let e = c .before .before .before .before .before .before .before .before .before .before .before .before .before .before .before .before .before .before .before .before .before .before .before .before .before .before .before .before .before .before .before in
+    let a = c .before .before .before .before .before .before .before .before .before .before .before .before .before .before .before .before .before .before .before .before .before .before .before .before .before .before .before .before .before .before .before .before .before .before .before .before .before .before .args in
     let o = opened e in
-    let b = c .before .before .before .before .before .before .before .before .build in (
+    let b = c .before .before .before .before .before .before .before .before .before .before .before .before .before .before .before .before .before .build in (
       o .ready,
       back-within (numbers-right (a .width) (a .rounds) (a .ceiling) (numbers (e .before .before .before .before)) .2) tt,
       bytes-front o (bytes-need e) relaxed _ (b .ensures .0),
-      cells-front o (numbers-need e) (b .last .1 .1 .1 .1 .0) (b .kept .1 .1 .1 .1 .0) _ ∙ b .ensures .1 .0,
+      cells-front o (numbers-need e) (b .last .1 .1 .1 .1 .1 .1 .1 .1 .1 .1 .1 .1 .1 .0) (b .kept .1 .1 .1 .1 .1 .1 .1 .1 .1 .1 .1 .1 .1 .0) _ ∙ b .ensures .1 .0,
+      o .long,
     )
 
 bound-of-requires : tie.Need-bound-of-requires
 bound-of-requires c κs =
-    let e = c .before .before .before .before .before .before .before .before .before .before .before .before .before .before .before .before .before .before in
-    let a = c .before .before .before .before .before .before .before .before .before .before .before .before .before .before .before .before .before .before .before .before .before .before .before .before .before .args in
+    let e = c .before .before .before .before .before .before .before .before .before .before .before .before .before .before .before .before .before .before .before .before .before .before .before .before .before .before .before .before .before .before .before .before .before .before .before .before in
+    let a = c .before .before .before .before .before .before .before .before .before .before .before .before .before .before .before .before .before .before .before .before .before .before .before .before .before .before .before .before .before .before .before .before .before .before .before .before .before .before .before .before .before .before .before .args in
     let o = opened e in
-    let b = c .before .before .before .before .before .before .before .before .before .before .before .before .before .build in
-    let shaped = relaxed-shaped (back (a .ceiling)) (campaignOf (a .p)) (a .width) (o .ready .some) (a .rounds) in
-    bound-asks o _ shaped _ (cells-done o (numbers-need e) (b .last .1 .1 .1 .1 .0) (b .kept .1 .1 .1 .1 .0) _ shaped _ _ (c .before .before .before .before .before .before .before .before .zero-cells .ensures) (c .before .before .before .before .filter .ensures .1))
+    let b = c .before .before .before .before .before .before .before .before .before .before .before .before .before .before .before .before .before .before .before .before .before .before .build in
+    let shaped = relaxed-shaped (back (a .ceiling)) (campaignOf (a .t1)) (a .width) (o .ready .some) (a .rounds) in
+    bound-asks o _ shaped _ (cells-done o (numbers-need e) (b .last .1 .1 .1 .1 .1 .1 .1 .1 .1 .1 .1 .1 .1 .0) (b .kept .1 .1 .1 .1 .1 .1 .1 .1 .1 .1 .1 .1 .1 .0) _ shaped _ _ (c .before .before .before .before .before .before .before .before .before .before .before .before .before .before .before .before .before .zero-cells .ensures) (c .before .before .before .before .filter .ensures .1))
 
 same-length : tie.Need-same-length
 same-length c = search needs
@@ -204,19 +212,19 @@ same-length-2 c = search needs
 
 returns-5 : tie.Need-returns-5
 returns-5 c =
-    let e = c .before .before .before .before .before .before .before .before .before .before .before .before .before .before .before .before .before .before .before in
-    let s = c .before .before .before .before .before .before .before .before .before .before .before .before .before .before .before .before .before .before .before .before .before .before .before .before .before .before in
+    let e = c .before .before .before .before .before .before .before .before .before .before .before .before .before .before .before .before .before .before .before .before .before .before .before .before .before .before .before .before .before .before .before .before .before .before .before .before .before in
+    let s = c .before .before .before .before .before .before .before .before .before .before .before .before .before .before .before .before .before .before .before .before .before .before .before .before .before .before .before .before .before .before .before .before .before .before .before .before .before .before .before .before .before .before .before .before in
     let a = s .args in
     let o = opened e in
-    let q = campaignOf (a .p) in
+    let q = campaignOf (a .t1) in
     let w = a .width in
     let told = toZ-ofZ (s .fits .ceiling) in
     let f = c .before .before .before .before .before .filter in
-    let b = c .before .before .before .before .before .before .before .before .before .before .before .before .before .before .build in
+    let b = c .before .before .before .before .before .before .before .before .before .before .before .before .before .before .before .before .before .before .before .before .before .before .before .build in
     let shaped = relaxed-shaped (a .ceiling) q w (o .ready .some) (a .rounds) in
-    let x = cells-done o (numbers-need e) (b .last .1 .1 .1 .1 .0) (b .kept .1 .1 .1 .1 .0) _ shaped _ _ (c .before .before .before .before .before .before .before .before .before .zero-cells .ensures) (f .ensures .1 ∙ ap (λ (z : ℤ). numberCells q w (cellsNeed q w) (relaxedArcs q w (a .rounds) z)) told) in
+    let x = cells-done o (numbers-need e) (b .last .1 .1 .1 .1 .1 .1 .1 .1 .1 .1 .1 .1 .1 .0) (b .kept .1 .1 .1 .1 .1 .1 .1 .1 .1 .1 .1 .1 .1 .0) _ shaped _ _ (c .before .before .before .before .before .before .before .before .before .before .before .before .before .before .before .before .before .before .zero-cells .ensures) (f .ensures .1 ∙ ap (λ (z : ℤ). numberCells q w (cellsNeed q w) (relaxedArcs q w (a .rounds) z)) told) in
     let y = bytes-done o (bytes-need e) relaxed _ (b .ensures .0) _ shaped _ (f .ensures .0 ∙ ap (λ (z : ℤ). laid 8 w (relaxedArcs q w (a .rounds) z)) told) in
-    let g = served (wrong s) (short s) (running s) (noBound (lent s)) (done s) (not-true _ (numbers (e .before .before .before .before))) (enough q w (lent s) (o .bytes) (o .room)) (relaxed-stays (a .p) (s .pre) w (a .rounds) (a .ceiling)) in
+    let g = served (wrong s) (short s) (running s) (noBound (lent s)) (done s) (not-true _ (numbers (e .before .before .before .before))) (enough q w (lent s) (o .bytes) (o .room)) (relaxed-stays (a .t1) (s .pre) w (a .rounds) (a .ceiling)) in
     (c .bound-of .ensures ∙ bound-done o _ shaped _ x (b .ensures .1 .1) ∙ ap (λ r. boundedAs (r .answer)) (sym g), (y ∙ ap (λ r. r .lent .arcs) (sym g), x ∙ ap (λ r. r .lent .cells) (sym g)))
 
 pub relaxed-spec : {M : Type 1} → statement M

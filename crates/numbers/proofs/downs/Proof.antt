@@ -6,21 +6,21 @@ use denote.Ref.{now}
 use lib.ListN.{length}
 use Rattle.meaning.specs.Buffers.{arcsIn}
 use Rattle.problem.specs.Held.{campaignOf}
-use Rattle.problem.proofs.Arrays.{long}
 use Rattle.lent.specs.Passes.{Spare}
 use Rattle.rows.proofs.Laid.{part-long}
-use Rattle.numbers.specs.Whole.{Ready}
+use Rattle.numbers.specs.Whole.{held, Ready}
 use Rattle.numbers.proofs.Passes.{Setting, setting, need-is, few-rules, few-slots, few-size, slot-asks, row-said, spare-start, Down, byte-place, slot-right, down-start, bytes-lower, down-right, down-rest, down-place, down-more, last-place, down-last, down-end}
 use borrow.Author.Needs.{needs}
 use Rattle.numbers.proofs.downs.Statement.{statement}
 use Rattle.numbers.proofs.downs.Tie as tie
 
 abbrev Inv-loop : tie.InvT-loop
-Inv-loop w arcs cells₀ p n m bytes size here₀ spare₀ row₀ i₀ cells here spare row i =
-    Ready p w × Setting (campaignOf p) w (p .n) (p .m) arcs (arcsIn (campaignOf p) w arcs) × (length row ≡ 136) × Spare spare × Down (campaignOf p) w (p .n) (p .m) (arcsIn (campaignOf p) w arcs) cells here i
+Inv-loop n m sets weights kinds values slots coefs lb ub w arcs cells₀ bytes size here₀ spare₀ row₀ i₀ cells here spare row i =
+    let p = held n m sets weights kinds values slots coefs lb ub in
+    Ready p w × Setting (campaignOf p) w n m arcs (arcsIn (campaignOf p) w arcs) × (length row ≡ 136) × Spare spare × Down (campaignOf p) w n m (arcsIn (campaignOf p) w arcs) cells here i
 
 abbrev μ-loop : tie.MeasureT-loop
-μ-loop w arcs cells₀ p n m bytes size here₀ spare₀ row₀ i₀ cells here spare row i = p .n - i
+μ-loop n m sets weights kinds values slots coefs lb ub w arcs cells₀ bytes size here₀ spare₀ row₀ i₀ cells here spare row i = n - i
 
 mul-bytes : tie.Need-mul-bytes Inv-loop μ-loop
 mul-bytes c = omega (arith, c .before .pre .0 .few)
@@ -40,9 +40,8 @@ one-node-requires c κs = tt
 loop-holds : tie.Need-loop-holds Inv-loop μ-loop
 loop-holds c =
     let x = c .before .before in
-    let sets : length (x .args .t1 .sets) ≡ 24 = search long in
-    let s = setting (x .pre .0) (x .pre .1) sets in
-    (x .pre .0, s, refl, spare-start, down-start s (x .pre .2 ∙ need-is (x .pre .0) sets) (c .one-node .ensures))
+    let s = setting (x .pre .0) (x .pre .1) (x .pre .3) in
+    (x .pre .0, s, refl, spare-start, down-start s (x .pre .2 ∙ need-is (x .pre .0) (x .pre .3)) (c .one-node .ensures))
 
 slice-aggregate-put-downs : tie.Need-slice-aggregate-put-downs Inv-loop μ-loop
 slice-aggregate-put-downs c = sym (down-right (c .before .before .loop .inv .1) (c .before .before .loop .inv .4) .long)
@@ -71,7 +70,7 @@ part-put-downs-end c = omega (arith, down-place (c .before .before .loop .inv .1
 put-downs-requires : tie.Need-put-downs-requires Inv-loop μ-loop
 put-downs-requires c κs =
     let l = c .before .before .before .loop in
-    let size = c .before .before .before .before .before .before .args .w * (4 * c .before .before .before .before .before .before .args .t1 .m + 3) in
+    let size = c .before .before .before .before .before .before .args .w * (4 * c .before .before .before .before .before .before .args .m + 3) in
     (few-rules (l .inv .0), l .inv .0 .few, down-right (l .inv .1) (l .inv .4), part-long (l .i * size) size (l .cells) (down-place (l .inv .1) (l .inv .4) .0))
 
 mul-weight : tie.Need-mul-weight Inv-loop μ-loop
@@ -81,27 +80,27 @@ element-copy-out-weight : tie.Need-element-copy-out-weight Inv-loop μ-loop
 element-copy-out-weight c = omega (arith, few-slots (c .before .before .before .before .before .loop .inv .0), c .before .before .before .before .loop-test .taken)
 
 slice-aggregate-slot-row : tie.Need-slice-aggregate-slot-row Inv-loop μ-loop
-slice-aggregate-slot-row c = sym (c .before .before .before .before .before .before .before .before .before .before .before .before .loop .inv .2)
+slice-aggregate-slot-row c = sym (c .before .before .before .before .before .before .before .loop .inv .2)
 
 slot-row-requires : tie.Need-slot-row-requires Inv-loop μ-loop
-slot-row-requires c κs = slot-asks (c .before .before .before .before .before .before .before .before .before .before .before .before .loop .inv .0) (c .before .before .before .before .before .before .before .before .before .before .before .before .loop .i) (c .before .before .before .before .before .before .before .before .before .before .before .loop-test .taken) (c .before .before .before .before .before .before .before .before .before .before .before .before .loop .row) (c .before .before .before .before .before .before .before .before .before .before .before .before .loop .inv .2)
+slot-row-requires c κs = slot-asks (c .before .before .before .before .before .before .before .loop .inv .0) (c .before .before .before .before .before .before .before .loop .i) (c .before .before .before .before .before .before .loop-test .taken) (c .before .before .before .before .before .before .before .loop .row) (c .before .before .before .before .before .before .before .loop .inv .2)
 
 slice-aggregate-next-down : tie.Need-slice-aggregate-next-down Inv-loop μ-loop
 slice-aggregate-next-down c =
-    let l = c .before .before .before .before .before .before .before .before .before .before .before .before .before .before .before .loop in
-    sym (slot-right (l .inv .1) (l .i) (row-said (l .inv .0) (l .i) (c .before .before .before .before .before .before .before .before .before .before .before .before .before .before .loop-test .taken) (c .before .before .slot-row .ensures)) .long)
+    let l = c .before .before .before .before .before .before .before .before .before .before .loop in
+    sym (slot-right (l .inv .1) (l .i) (row-said (l .inv .0) (l .i) (c .before .before .before .before .before .before .before .before .before .loop-test .taken) (c .before .before .slot-row .ensures)) .long)
 
 slice-aggregate-next-down-2 : tie.Need-slice-aggregate-next-down-2 Inv-loop μ-loop
-slice-aggregate-next-down-2 c = sym (down-right (c .before .before .before .before .before .before .before .before .before .before .before .before .before .before .before .before .loop .inv .1) (c .before .before .before .before .before .before .before .before .before .before .before .before .before .before .before .before .loop .inv .4) .long)
+slice-aggregate-next-down-2 c = sym (down-right (c .before .before .before .before .before .before .before .before .before .before .before .loop .inv .1) (c .before .before .before .before .before .before .before .before .before .before .before .loop .inv .4) .long)
 
 mul-next-down : tie.Need-mul-next-down Inv-loop μ-loop
-mul-next-down c = omega (arith, byte-place (c .before .before .before .before .before .before .before .before .before .before .before .before .before .before .before .before .loop .inv .1) (c .before .before .before .before .before .before .before .before .before .before .before .before .before .before .before .before .loop .i) (c .before .before .before .before .before .before .before .before .before .before .before .before .before .before .before .loop-test .taken))
+mul-next-down c = omega (arith, byte-place (c .before .before .before .before .before .before .before .before .before .before .before .loop .inv .1) (c .before .before .before .before .before .before .before .before .before .before .before .loop .i) (c .before .before .before .before .before .before .before .before .before .before .loop-test .taken))
 
 mul-next-down-2 : tie.Need-mul-next-down-2 Inv-loop μ-loop
-mul-next-down-2 c = omega (arith, byte-place (c .before .before .before .before .before .before .before .before .before .before .before .before .before .before .before .before .loop .inv .1) (c .before .before .before .before .before .before .before .before .before .before .before .before .before .before .before .before .loop .i) (c .before .before .before .before .before .before .before .before .before .before .before .before .before .before .before .loop-test .taken))
+mul-next-down-2 c = omega (arith, byte-place (c .before .before .before .before .before .before .before .before .before .before .before .loop .inv .1) (c .before .before .before .before .before .before .before .before .before .before .before .loop .i) (c .before .before .before .before .before .before .before .before .before .before .loop-test .taken))
 
 add-next-down : tie.Need-add-next-down Inv-loop μ-loop
-add-next-down c = omega (arith, byte-place (c .before .before .before .before .before .before .before .before .before .before .before .before .before .before .before .before .loop .inv .1) (c .before .before .before .before .before .before .before .before .before .before .before .before .before .before .before .before .loop .i) (c .before .before .before .before .before .before .before .before .before .before .before .before .before .before .before .loop-test .taken))
+add-next-down c = omega (arith, byte-place (c .before .before .before .before .before .before .before .before .before .before .before .loop .inv .1) (c .before .before .before .before .before .before .before .before .before .before .before .loop .i) (c .before .before .before .before .before .before .before .before .before .before .loop-test .taken))
 
 sub-next-down : tie.Need-sub-next-down Inv-loop μ-loop
 sub-next-down c = search needs
@@ -110,37 +109,37 @@ part-next-down-start : tie.Need-part-next-down-start Inv-loop μ-loop
 part-next-down-start c = search needs
 
 part-next-down-end : tie.Need-part-next-down-end Inv-loop μ-loop
-part-next-down-end c = omega (arith, byte-place (c .before .before .before .before .before .before .before .before .before .before .before .before .before .before .before .before .loop .inv .1) (c .before .before .before .before .before .before .before .before .before .before .before .before .before .before .before .before .loop .i) (c .before .before .before .before .before .before .before .before .before .before .before .before .before .before .before .loop-test .taken))
+part-next-down-end c = omega (arith, byte-place (c .before .before .before .before .before .before .before .before .before .before .before .loop .inv .1) (c .before .before .before .before .before .before .before .before .before .before .before .loop .i) (c .before .before .before .before .before .before .before .before .before .before .loop-test .taken))
 
 slice-aggregate-next-down-3 : tie.Need-slice-aggregate-next-down-3 Inv-loop μ-loop
-slice-aggregate-next-down-3 c = sym (c .before .before .before .before .before .before .before .before .before .before .before .before .before .before .before .before .before .before .loop .inv .3 .long)
+slice-aggregate-next-down-3 c = sym (c .before .before .before .before .before .before .before .before .before .before .before .before .before .loop .inv .3 .long)
 
 next-down-requires : tie.Need-next-down-requires Inv-loop μ-loop
 next-down-requires c κs =
-    let l = c .before .before .before .before .before .before .before .before .before .before .before .before .before .before .before .before .before .before .loop in
-    let h = c .before .before .before .before .before .before .before .before .before .before .before .before .before .before .before .before .before .loop-test .taken in
-    let bytes = c .before .before .before .before .before .before .before .before .before .before .before .before .before .before .before .before .before .before .before .before .before .args .w * 8 in (
+    let l = c .before .before .before .before .before .before .before .before .before .before .before .before .before .loop in
+    let h = c .before .before .before .before .before .before .before .before .before .before .before .before .loop-test .taken in
+    let bytes = c .before .before .before .before .before .before .before .before .before .before .before .before .before .before .before .before .args .w * 8 in (
       l .inv .0 .few,
       slot-right (l .inv .1) (l .i) (row-said (l .inv .0) (l .i) h (c .before .before .before .before .before .slot-row .ensures)),
       down-right (l .inv .1) (l .inv .4),
       down-rest (l .inv .1) (l .inv .4),
-      part-long (l .i * bytes) bytes (now (c .before .before .before .before .before .before .before .before .before .before .before .before .before .before .before .before .before .before .before .before .before .args .arcs)) (byte-place (l .inv .1) (l .i) h .0),
+      part-long (l .i * bytes) bytes (now (c .before .before .before .before .before .before .before .before .before .before .before .before .before .before .before .before .args .arcs)) (byte-place (l .inv .1) (l .i) h .0),
       bytes-lower (l .inv .1) (l .i) h,
       l .inv .3,
     )
 
 add-i : tie.Need-add-i Inv-loop μ-loop
-add-i c = search needs
+add-i c = omega (arith, few-slots (c .before .before .before .before .before .before .before .before .before .before .before .before .before .before .before .before .loop .inv .0), c .before .before .before .before .before .before .before .before .before .before .before .before .before .before .before .loop-test .taken)
 
 loop-less : tie.Need-loop-less Inv-loop μ-loop
-loop-less c = search needs
+loop-less c = omega (arith, c .before .before .before .before .before .before .before .before .before .before .before .before .before .before .before .loop-test .taken)
 
 loop-again : tie.Need-loop-again Inv-loop μ-loop
 loop-again c =
-    let l = c .before .before .before .before .before .before .before .before .before .before .before .before .before .before .before .before .before .before .before .before .before .loop in
-    let h = c .before .before .before .before .before .before .before .before .before .before .before .before .before .before .before .before .before .before .before .before .loop-test .taken in
+    let l = c .before .before .before .before .before .before .before .before .before .before .before .before .before .before .before .before .loop in
+    let h = c .before .before .before .before .before .before .before .before .before .before .before .before .before .before .before .loop-test .taken in
     let said = row-said (l .inv .0) (l .i) h (c .before .before .before .before .before .before .before .before .slot-row .ensures) in
-    (l .inv .0, l .inv .1, slot-right (l .inv .1) (l .i) said .long, c .before .before .next-down .ensures .1, down-more (l .inv .1) (l .inv .4) h (c .before .before .before .before .before .before .before .before .before .before .before .before .before .before .before .before .before .put-downs .ensures) said (c .before .before .next-down .ensures .0))
+    (l .inv .0, l .inv .1, slot-right (l .inv .1) (l .i) said .long, c .before .before .next-down .ensures .1, down-more (l .inv .1) (l .inv .4) h (c .before .before .before .before .before .before .before .before .before .before .before .before .put-downs .ensures) said (c .before .before .next-down .ensures .0))
 
 slice-aggregate-put-downs-2 : tie.Need-slice-aggregate-put-downs-2 Inv-loop μ-loop
 slice-aggregate-put-downs-2 c = sym (down-right (c .before .before .loop .inv .1) (c .before .before .loop .inv .4) .long)
@@ -169,14 +168,14 @@ part-put-downs-end-2 c = omega (arith, last-place (c .before .before .loop .inv 
 put-downs-requires-2 : tie.Need-put-downs-requires-2 Inv-loop μ-loop
 put-downs-requires-2 c κs =
     let l = c .before .before .before .loop in
-    let size = c .before .before .before .before .before .before .args .w * (4 * c .before .before .before .before .before .before .args .t1 .m + 3) in
-    (few-rules (l .inv .0), l .inv .0 .few, down-right (l .inv .1) (l .inv .4), part-long (c .before .before .before .before .before .before .args .t1 .n * size) size (l .cells) (last-place (l .inv .1) (l .inv .4 .laid .long) .0))
+    let size = c .before .before .before .before .before .before .args .w * (4 * c .before .before .before .before .before .before .args .m + 3) in
+    (few-rules (l .inv .0), l .inv .0 .few, down-right (l .inv .1) (l .inv .4), part-long (c .before .before .before .before .before .before .args .n * size) size (l .cells) (last-place (l .inv .1) (l .inv .4 .laid .long) .0))
 
 same-length : tie.Need-same-length Inv-loop μ-loop
 same-length c =
     let x = c .before .before .before .before .before .before .before .before in
     let l = c .before .before .before .before .before .loop in
-    down-last (l .inv .1) (l .inv .4) (c .before .before .before .before .loop-test .left) (c .before .put-downs2 .ensures) .long ∙ sym (x .pre .2 ∙ need-is (x .pre .0) (search long))
+    down-last (l .inv .1) (l .inv .4) (c .before .before .before .before .loop-test .left) (c .before .put-downs2 .ensures) .long ∙ sym (x .pre .2 ∙ need-is (x .pre .0) (x .pre .3))
 
 returns : tie.Need-returns Inv-loop μ-loop
 returns c =

@@ -1,6 +1,7 @@
 -- `limit_of` meets its contract: a turn writes the bounds of one rule.
 use Prim.Native.Nat.{_-_}
 use native.Mathlib.Omega.{arith}
+use denote.Ref.{now}
 use lib.ListN.{getD}
 use lib.IntN.{pos}
 use mir.Facts.{toZ-ofZ}
@@ -12,25 +13,25 @@ use Rattle.numbers.proofs.limit_of.Statement.{statement}
 use Rattle.numbers.proofs.limit_of.Tie as tie
 
 abbrev Inv-loop : tie.InvT-loop
-Inv-loop m ceiling lbs ubs x₀ r₀ x r = Bounds m lbs ubs x r
+Inv-loop m lbs ubs ceiling x₀ r₀ x r = Bounds m lbs ubs x r
 
 abbrev μ-loop : tie.MeasureT-loop
-μ-loop m ceiling lbs ubs x₀ r₀ x r = m - r
+μ-loop m lbs ubs ceiling x₀ r₀ x r = m - r
 
 loop-holds : tie.Need-loop-holds Inv-loop μ-loop
-loop-holds c = bounds-start (c .args .m) (c .args .t2) (c .args .t3) (c .pre)
+loop-holds c = bounds-start (c .args .m) (now (c .args .lbs)) (now (c .args .ubs)) (c .pre)
 
 mul-lb : tie.Need-mul-lb Inv-loop μ-loop
 mul-lb c = omega (arith, c .before .loop .inv .few, c .loop-test .taken)
 
-array-copy-out-lb : tie.Need-array-copy-out-lb Inv-loop μ-loop
-array-copy-out-lb c = omega (arith, c .before .loop .inv .few, c .loop-test .taken)
+element-copy-out-lb : tie.Need-element-copy-out-lb Inv-loop μ-loop
+element-copy-out-lb c = omega (arith, c .before .loop .inv .few, c .loop-test .taken)
 
 mul-ub : tie.Need-mul-ub Inv-loop μ-loop
 mul-ub c = omega (arith, c .before .before .loop .inv .few, c .before .loop-test .taken)
 
-array-copy-out-ub : tie.Need-array-copy-out-ub Inv-loop μ-loop
-array-copy-out-ub c = omega (arith, c .before .before .loop .inv .few, c .before .loop-test .taken)
+element-copy-out-ub : tie.Need-element-copy-out-ub Inv-loop μ-loop
+element-copy-out-ub c = omega (arith, c .before .before .loop .inv .few, c .before .loop-test .taken)
 
 mul-x : tie.Need-mul-x Inv-loop μ-loop
 mul-x c = omega (arith, c .before .before .before .loop .inv .few, c .before .before .loop-test .taken)
@@ -61,13 +62,13 @@ loop-again c =
     let x = c .before .before .before .before in
     let l = c .before .before .before .loop in
     let h = c .before .before .loop-test .taken in
-    bounds-more (x .args .m) (x .args .t2) (x .args .t3) (l .inv) h (told (getD (x .args .t3) (l .r) (pos 0)) (c .ub .given)) (turned (x .pre .low (l .r) h) tt)
+    bounds-more (x .args .m) (now (x .args .lbs)) (now (x .args .ubs)) (l .inv) h (told (getD (now (x .args .ubs)) (l .r) (pos 0)) (c .ub .given)) (turned (x .pre .low (l .r) h) tt)
 
 array-set-from-x-3 : tie.Need-array-set-from-x-3 Inv-loop μ-loop
 array-set-from-x-3 c = search needs
 
 returns : tie.Need-returns Inv-loop μ-loop
-returns c = (let a = c .before .before .args in bounds-end (a .m) (a .t2) (a .t3)) (c .before .loop .inv) (c .loop-test .left) (toZ-ofZ (c .before .before .fits .ceiling))
+returns c = (let a = c .before .before .args in bounds-end (a .m) (now (a .lbs)) (now (a .ubs))) (c .before .loop .inv) (c .loop-test .left) (toZ-ofZ (c .before .before .fits .ceiling))
 
 pub limit-of-spec : {M : Type 1} → statement M
 limit-of-spec =
@@ -77,9 +78,9 @@ limit-of-spec =
     μ-loop
     loop-holds
     mul-lb
-    array-copy-out-lb
+    element-copy-out-lb
     mul-ub
-    array-copy-out-ub
+    element-copy-out-ub
     mul-x
     array-set-from-x
     sub-x

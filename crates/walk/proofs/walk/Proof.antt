@@ -14,18 +14,18 @@ use Rattle.walk.proofs.Sweeping.{formed, same-cells, same-answer, same-
 use Rattle.walk.proofs.walk.Statement.{statement}
 use Rattle.walk.proofs.walk.Tie as tie
 
-sets-long : (s : tie.Start) → length (s .args .p .sets) ≡ 24
+sets-long : (s : tie.Start) → length (s .args .t1 .sets) ≡ 24
 sets-long s = search long
 
 sweep-requires : tie.Need-sweep-requires
 sweep-requires c κs =
-    let s = c .before .before .before .before .before in
-    (s .pre .0, s .pre .3, s .pre .4, λ t. absurd (true≢false (sym t)))
+    let s = c .before .before .before .before .before .before .before .before .before .before .before .before .before .before in
+    (s .pre .0, s .pre .3, s .pre .4, (λ t. absurd (true≢false (sym t))), sets-long s)
 
 list-requires : tie.Need-list-requires
 list-requires c κs =
     let w = c .before .before .before .before .before .before .sweep in
-    let s = c .before .before .before .before .before .before .before .before .before .before .before .before in
+    let s = c .before .before .before .before .before .before .before .before .before .before .before .before .before .before .before .before .before .before .before .before .before in
     let sets = sets-long s in (
       s .pre .0,
       back-within (s .pre .1) tt,
@@ -48,10 +48,10 @@ returns : tie.Need-returns
 returns c =
     let l = c .before .before .list in
     let w = c .before .before .before .before .before .before .before .before .before .sweep in
-    let s = c .before .before .before .before .before .before .before .before .before .before .before .before .before .before .before in
+    let s = c .before .before .before .before .before .before .before .before .before .before .before .before .before .before .before .before .before .before .before .before .before .before .before .before in
     let a = s .args in
     let n = length (now (a .page)) in
-    let k = n / slots (campaignOf (a .p)) in
+    let k = n / slots (campaignOf (a .t1)) in
     let is = toZ-ofZ (s .fits .ceiling) in (
       same-answer (s .pre .0) (sets-long s) (s .pre .3) (w .ensures .0) is (now (a .start)) k (l .ensures .0),
       (same-page (s .pre .0) (sets-long s) (s .pre .3) (w .ensures .0) is (now (a .start)) n k (l .ensures .1), (w .ensures .0, w .ensures .1)),
