@@ -26,7 +26,7 @@ target/bin/planner: $(wildcard crates/*/src/*.rt)
 # machine is another the same sources compiled for it.
 ARCHIVE = target/staticlib/libbrennigou.a
 # without make's own variables, in which rustc would look for its job server
-NATIVE_RUSTC = env -u MAKEFLAGS rustc
+NATIVE_RUSTC = env -u MAKEFLAGS -u MFLAGS rustc
 FLAGS = --edition 2021 -C opt-level=3 -C codegen-units=1 -C panic=abort
 X = target/x86-64
 ifeq ($(shell uname -m),x86_64)
@@ -36,7 +36,7 @@ RUN =
 NATIVE = $(ARCHIVE)
 else
 CROSS_CC = x86_64-linux-gnu-gcc
-RUSTC = env -u MAKEFLAGS $$(tools/cross.sh)
+RUSTC = env -u MAKEFLAGS -u MFLAGS $$(tools/cross.sh)
 RUN = qemu-x86_64
 NATIVE = target/native/libbrennigou.a
 endif
