@@ -7,12 +7,12 @@ use native.Mathlib.Omega.{arith}
 use borrow.Author.Tests.{ne-eqb}
 use lib.Dec.{eqb}
 use lib.ListN.{length, getD, set, take, drop, length-set}
-use lib.Seq.{length-take-le, take-set-le}
+use lib.Seq.{take-set-le}
 use lib.IntN.{ℤ}
 use Rattle.step.specs.Steps.{laying, mayKeep, coefsIn, weightsIn, leastsIn, mostsIn, valuesIn, setsIn, totalsAt, budgetAt, restAt, hereAt, goesOn, trod}
 use Rattle.walk.specs.Beginnings.{Walkable, Finds, firstOf, isOpen}
 use Rattle.walk.proofs.Trail.{level-totals, level-budget, below, trod-below, trod-totals, trod-budget, trod-long, totals-long}
-use Rattle.walk.proofs.Places.{shares-long}
+use Rattle.step.proofs.Steps.{here-long}
 use Rattle.walk.proofs.Turns.{Going, sink-leaf, going-past, going-back, going-on, still}
 
 module _ (n m w cap : ℕ) (cs : List ℤ) (vs bs : List ℕ) (ks : List ℤ) (own : Bool) (i j : ℕ) (tr : List ℤ) (pl pg : List ℕ) (seen : ℕ) where
@@ -38,8 +38,8 @@ module _ (n m w cap : ℕ) (cs : List ℤ) (vs bs : List ℕ) (ks : List ℤ) (o
     pub goes : Goes page t v
 
   -- the same of equals
-  pub same-pace : {trail trail₁ : List ℤ} {plan plan₁ page page₁ : List ℕ} {t t₁ v : ℕ} → trail ≡ trail₁ → plan ≡ plan₁ → page ≡ page₁ → t ≡ t₁ → Pace trail₁ plan₁ page₁ t₁ v → Pace trail plan page t v
-  same-pace a b c d p = rw (a, b, c, d) p
+  pub same-pace : {trail trail₁ : List ℤ} {plan plan₁ page page₁ : List ℕ} {t t₁ v v₁ : ℕ} → trail ≡ trail₁ → plan ≡ plan₁ → page ≡ page₁ → t ≡ t₁ → v ≡ v₁ → Pace trail₁ plan₁ page₁ t₁ v₁ → Pace trail plan page t v
+  same-pace a b c d e p = rw (a, b, c, d, e) p
 
   -- and the start's own step is behind
   abbrev pub Stage : List ℤ → List ℕ → List ℕ → ℕ → ℕ → Type 0
@@ -59,6 +59,9 @@ module _ (n m w cap : ℕ) (cs : List ℤ) (vs bs : List ℕ) (ks : List ℤ) (o
       -- the test reads no more than the level of slot i
       here-same : hereAt cs vs i v trail ≡ hereAt cs vs i v tr
       here-same = rw (level-totals i trail tr (p .under)) refl
+
+      here-eight : length (hereAt cs vs i v trail) ≡ 8
+      here-eight = let few = g .slots-few in here-long cs vs i v trail (omega arith) c232 v216 (p .trail-long)
 
       rest-same : restAt cs i v trail ≡ restAt cs i v tr
       rest-same = rw (level-budget i trail tr (p .under)) refl
@@ -102,14 +105,13 @@ module _ (n m w cap : ℕ) (cs : List ℤ) (vs bs : List ℕ) (ks : List ℤ) (o
       pace-on h e mine em whole trail₁ plan₁ page₁ t₁ tl tu pl24 pb long few₁ found =
           let n24 = g .slots-few in
           let ok = both (opensAt v) (keepsAt v) (sym (goes-same h) ∙ e) in
-          let e8 : length (hereAt cs vs i v trail) ≡ 8 = rw here-same (shares-long i v (omega arith) (coefsIn cs) (valuesIn vs) (totalsAt i tr) (length-take-le 192 cs (omega arith)) (length-take-le 192 vs (omega arith)) eight) in
-          let f = rw (trod-totals cs vs i v trail (omega arith) (p .trail-long) e8, trod-budget cs vs i v trail (omega arith) (p .trail-long) e8, here-same, rest-same, sym em) at found in
+          let f = rw (trod-totals cs vs i v trail (omega arith) (p .trail-long) here-eight, trod-budget cs vs i v trail (omega arith) (p .trail-long) here-eight, here-same, rest-same, sym em) at found in
           record {
             page-long = long ∙ p .page-long;
             plan-long = pl24;
             trail-long = tl;
             begun = still i plan₁ (set plan i v) pb ∙ take-set-le i plan i v (omega arith) ∙ p .begun;
-            under = below i trail₁ (trod cs vs i v trail) tu ∙ trod-below cs vs i v trail (omega arith) (p .trail-long) e8 ∙ p .under;
+            under = below i trail₁ (trod cs vs i v trail) tu ∙ trod-below cs vs i v trail (omega arith) (p .trail-long) here-eight ∙ p .under;
             few = few₁;
             goes = going-on n m w (setsIn vs) (weightsIn cs) (leastsIn cs) (mostsIn cs) (coefsIn cs) (valuesIn vs) bs ks own i j (totalsAt i tr) (budgetAt i tr) pl cap pg seen g hi hj eight v hv (firstOf own (drop i pl)) refl plan (p .plan-long) (p .begun) (λ e. whole (sym em ∙ e)) page t page₁ t₁ (ok .0) (ok .1) f (p .goes);
           }
@@ -121,6 +123,5 @@ module _ (n m w cap : ℕ) (cs : List ℤ) (vs bs : List ℕ) (ks : List ℤ) (o
           → Pace (trod cs vs i v trail) (set plan i v) page₁ t₁ (v + 1)
       pace-last h e mine em whole last page₁ t₁ long few₁ laid =
           let n24 = g .slots-few in
-          let e8 : length (hereAt cs vs i v trail) ≡ 8 = rw here-same (shares-long i v (omega arith) (coefsIn cs) (valuesIn vs) (totalsAt i tr) (length-take-le 192 cs (omega arith)) (length-take-le 192 vs (omega arith)) eight) in
-          pace-on h e mine em whole (trod cs vs i v trail) (set plan i v) page₁ t₁ (trod-long cs vs i v trail (omega arith) (p .trail-long) e8) refl (length-set plan i v ∙ p .plan-long) refl long few₁
+          pace-on h e mine em whole (trod cs vs i v trail) (set plan i v) page₁ t₁ (trod-long cs vs i v trail (omega arith) (p .trail-long) here-eight) refl (length-set plan i v ∙ p .plan-long) refl long few₁
           (sink-leaf n m w (setsIn vs) (weightsIn cs) (leastsIn cs) (mostsIn cs) (coefsIn cs) (valuesIn vs) bs ks mine (suc i) (byte v - 1) (totalsAt (suc i) (trod cs vs i v trail)) (budgetAt (suc i) (trod cs vs i v trail)) (set plan i v) cap page t g last page₁ t₁ laid)

@@ -1,21 +1,16 @@
 -- Where do a node's arc byte and a child's cells stand, and how large are totals and budget?
-use mathlib.Core.List.{List, [], _∷_}
-use mathlib.Core.Path.{_≡_, refl, sym, _∙_, ap}
-use Prim.Native.Nat.{ℕ, zero, suc, _+_, _*_, _-_, _/_, _^_, _≤_, _<_}
-use native.Mathlib.Nat.{mul-le-mul-left, mul-le-mul-right, suc-mul, mul-assoc, mod-lt}
+use mathlib.Core.List.{List}
+use mathlib.Core.Path.{_≡_}
+use Prim.Native.Nat.{ℕ, zero, suc, _+_, _*_, _-_, _≤_, _<_}
+use native.Mathlib.Nat.{mul-le-mul-left, mul-le-mul-right, suc-mul, mul-assoc}
 use native.Mathlib.Numerals.{add-one}
 use native.Mathlib.Omega.{arith}
 use lib.IntN.{ℤ, _-ℤ_}
-use lib.ListN.{length, getD, take, drop, length-drop}
-use lib.Seq.{length-take-le}
+use lib.ListN.{length, getD}
 use Rattle.laws.specs.Z.{Within, sum-within}
-use Rattle.laws.proofs.Each.{Each, each-at, each-take, each-drop}
-use Rattle.lent.specs.Lanes.{sums}
-use Rattle.slot.specs.Rows.{lanesOf}
-use Rattle.slot.proofs.Laws.{lane-within, lanes-long}
+use Rattle.laws.proofs.Each.{each-at}
 use Rattle.state.proofs.Sizes.{neg-size}
 use Rattle.walk.specs.Beginnings.{Walkable}
-use Rattle.step.specs.Steps.{withShares}
 
 -- ---- places
 mul-few : (i k w l : ℕ) → i ≤ k → w ≤ l → i * w ≤ k * l
@@ -50,26 +45,3 @@ more h f = record { size = omega (arith, f .size) }
 
 pub rest-within : (i : ℕ) {b y : ℤ} → Within (2000000 + 70000 * i) b → Within 70000 y → Within (2000000 + 70000 * suc i) (b -ℤ y)
 rest-within i {b} {y} h k = more (omega arith) (sum-within {n = 70000} h (record { size = omega (arith, neg-size y, k .size) }))
-
-sums-within : (i v : ℕ) → v < 8 → (ts cs : List ℤ) (vs : List ℕ) → Each (Within (7001 * i)) ts → Each (Within 1000) cs → Each (Within (7001 * suc i)) (sums ts (lanesOf cs vs v))
-sums-within i v h [] cs vs f k = tt
-sums-within i v h (t ∷ ts) [] vs f k = tt
-sums-within i v h (t ∷ ts) (c ∷ cs) [] f k = tt
-sums-within i v h (t ∷ ts) (c ∷ cs) (b ∷ vs) f k =
-    (more (omega arith) (sum-within {n = 7001} (f .0) (lane-within (k .0) h (mod-lt (b / 2 ^ v) (omega arith)))), sums-within i v h ts cs vs (f .1) (k .1))
-
-pub shares-within : (i v : ℕ) → v < 8 → (coefs : List ℤ) (values : List ℕ) (ts : List ℤ) → Each (Within (7001 * i)) ts → Each (Within 1000) coefs → Each (Within (7001 * suc i)) (withShares coefs values i v ts)
-shares-within i v h coefs values ts f k =
-    sums-within i v h ts (take 8 (drop (i * 8) coefs)) (take 8 (drop (i * 8) values)) f (each-take (Within 1000) 8 (drop (i * 8) coefs) (each-drop (Within 1000) (i * 8) coefs k))
-
-sums-long : (ts xs : List ℤ) → length ts ≤ length xs → length (sums ts xs) ≡ length ts
-sums-long [] xs h = refl
-sums-long (t ∷ ts) [] h = absurd (omega arith)
-sums-long (t ∷ ts) (x ∷ xs) h = ap suc (sums-long ts xs (omega arith))
-
-pub shares-long : (i v : ℕ) → i < 24 → (coefs : List ℤ) (values : List ℕ) (ts : List ℤ) → length coefs ≡ 192 → length values ≡ 192 → length ts ≡ 8 → length (withShares coefs values i v ts) ≡ 8
-shares-long i v h coefs values ts c d e =
-    let own : length (take 8 (drop (i * 8) coefs)) ≡ 8 = length-take-le 8 (drop (i * 8) coefs) (rw (length-drop (i * 8) coefs, c) (omega arith)) in
-    let same : length (take 8 (drop (i * 8) values)) ≡ 8 = length-take-le 8 (drop (i * 8) values) (rw (length-drop (i * 8) values, d) (omega arith)) in
-    let all : length (lanesOf (take 8 (drop (i * 8) coefs)) (take 8 (drop (i * 8) values)) v) ≡ 8 = lanes-long (take 8 (drop (i * 8) coefs)) (take 8 (drop (i * 8) values)) v (own ∙ sym same) ∙ own in
-    sums-long ts (lanesOf (take 8 (drop (i * 8) coefs)) (take 8 (drop (i * 8) values)) v) (rw (all, e) (omega arith)) ∙ e

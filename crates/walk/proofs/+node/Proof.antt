@@ -9,16 +9,17 @@ use native.Mathlib.Omega.{arith}
 use denote.Ref.{now}
 use lib.Dec.{eqb}
 use lib.ListN.{length, getD, take, drop, set, length-set}
-use lib.Seq.{length-take-le, getD-drop, set-getD}
+use lib.Seq.{getD-drop, set-getD}
 use Rattle.step.specs.Steps.{coefsIn, weightsIn, leastsIn, mostsIn, valuesIn, setsIn, totalsAt, budgetAt, hereAt, goesOn, trod}
+use Rattle.step.proofs.Steps.{here-long, here-within}
 use Rattle.walk.specs.Beginnings.{slotsIn, rulesIn, widthIn, roomIn, firstOf}
 use mathlib.Core.List.{List}
-use lib.IntN.{ℤ, pos, _*ℤ_}
+use lib.IntN.{ℤ, pos}
 use Rattle.laws.specs.Z.{Within, mul-within}
 use Rattle.laws.proofs.Each.{Each, each-more}
 use borrow.Author.Tests.{eq-eqb, ne-eqb}
 use Rattle.walk.specs.Beginnings.{Walkable, Finds}
-use Rattle.walk.proofs.Places.{arc-place, byte-few, row-few, cells-few, child-end, one-less, rest-within, shares-within, shares-long}
+use Rattle.walk.proofs.Places.{arc-place, byte-few, row-few, cells-few, child-end, one-less, rest-within}
 use Rattle.walk.proofs.Trail.{level-totals, level-budget, trod-totals, trod-budget, trod-long, totals-long}
 use Rattle.walk.proofs.Turns.{sink-leaf, going-begins, going-ends, going-full}
 use Rattle.walk.proofs.Paces.{Pace, Stage, same-pace, byte, pace-none, pace-shut, pace-on, pace-last}
@@ -74,10 +75,6 @@ claims t = (
   put-reads.Asked,
   put-reads.Learnt,
 )
-
--- a step's price is small
-price-within : {z : ℤ} {v : ℕ} → Within 10000 z → v < 8 → Within 70000 (z *ℤ pos v)
-price-within h k = mul-within {n = 7} h (omega arith)
 
 -- a byte that leads to a node is not zero
 arc-some : {b c : ℕ} {r : Bool} → b ≡ c → r ≡ not (eqb b 0) → r ≡ true → 0 < c
@@ -192,25 +189,27 @@ module _ (t : ℕ) (x : node-lts.Start (claims t) (node-at t) node.Post node-Inv
       p .trail-long,
     )
 
-    here-long : length (hereAt cs vs i v trail) ≡ 8
-    here-long = shares-long i v few24 (coefsIn cs) (valuesIn vs) (totalsAt i trail) (length-take-le 192 cs (omega (arith, x .pre .1 .10))) (length-take-le 192 vs (omega (arith, x .pre .1 .11))) (totals-long i few24 trail (p .trail-long))
+    eight : length (hereAt cs vs i v trail) ≡ 8
+    eight = here-long cs vs i v trail few24 (x .pre .1 .10) (x .pre .1 .11) (p .trail-long)
 
     -- the level behind the step
     next-totals : Each (Within (7001 * suc i)) (totalsAt (suc i) (trod cs vs i v trail))
-    next-totals = rw (trod-totals cs vs i v trail few24 (p .trail-long) here-long, level-totals i trail tr (p .under)) (shares-within i v hv (coefsIn cs) (valuesIn vs) (totalsAt i tr) (x .pre .1 .4) (g .counted))
+    next-totals =
+        let more : 7001 * i + 7001 ≡ 7001 * suc i = omega arith in
+        rw (trod-totals cs vs i v trail few24 (p .trail-long) eight) (rw more at (here-within (7001 * i) cs vs i v trail hv (g .counted) (rw (level-totals i trail tr (p .under)) (x .pre .1 .4))))
 
     next-budget : Within (2000000 + 70000 * suc i) (budgetAt (suc i) (trod cs vs i v trail))
-    next-budget = rw (trod-budget cs vs i v trail few24 (p .trail-long) here-long, level-budget i trail tr (p .under)) (rest-within i (x .pre .1 .5) (price-within (g .priced i under) hv))
+    next-budget = rw (trod-budget cs vs i v trail few24 (p .trail-long) eight, level-budget i trail tr (p .under)) (rest-within i (x .pre .1 .5) (mul-within {n = 7} (g .priced i under) (omega (arith, hv))))
 
-    next-place : (x .args .left ≡ 1 → ⊥) → s ≤ suc cap → length page ≡ length pg → length plan ≡ 24
+    next-place : (x .args .left ≡ 1 → ⊥)
         → (1 ≤ x .args .left - 1) × (x .args .left - 1 ≤ n) × (byteOf v - 1 < w) × Each (Within (7001 * (n - (x .args .left - 1)))) (totalsAt (n - (x .args .left - 1)) (trod cs vs i v trail))
         × Within (2000000 + 70000 * (n - (x .args .left - 1))) (budgetAt (n - (x .args .left - 1)) (trod cs vs i v trail))
-    next-place e f l p24 =
+    next-place e =
         let one : n - (x .args .left - 1) ≡ suc i = one-less n (x .args .left) (x .pre .1 .2) (λ z. omega (arith, x .pre .1 .1)) in
         (omega (arith, x .pre .1 .1, e), omega (arith, x .pre .1 .2), omega (arith, some, byte-few g ((i * w + x .args .j) * 8 + v)), rw one next-totals, rw one next-budget)
 
     next-long : length (trod cs vs i v trail) ≡ 225
-    next-long = trod-long cs vs i v trail few24 (p .trail-long) here-long
+    next-long = trod-long cs vs i v trail few24 (p .trail-long) eight
 
   free-begins : x .args .own ≡ false → Here tr pl pg (x .args .seen) 0
   free-begins o = cases (x .args .own) o begins
@@ -218,10 +217,6 @@ module _ (t : ℕ) (x : node-lts.Start (claims t) (node-at t) node.Post node-Inv
       cases : (o : Bool) → o ≡ false → Here tr pl pg (x .args .seen) (firstOf o (drop i pl)) → Here tr pl pg (x .args .seen) 0
       cases false e f = f
       cases true e f = absurd (true≢false e)
-
-  -- the same of equals
-  same-here : {trail trail₁ : List ℤ} {plan plan₁ page page₁ : List ℕ} {s s₁ v v₁ : ℕ} → trail ≡ trail₁ → plan ≡ plan₁ → page ≡ page₁ → s ≡ s₁ → v ≡ v₁ → Here trail₁ plan₁ page₁ s₁ v₁ → Here trail plan page s v
-  same-here a b c d e h = rw (a, b, c, d, e) h
 
   -- along the start's own step
   module _ (o : x .args .own ≡ true) (v : ℕ) (e : v ≡ getD pl i 0) (hv : v < 8) (some : 0 < byteOf v) (on : goesOn m cs vs i v ks (((i + 1) * w + byteOf v - 1) * (4 * m + 3)) tr ≡ true) where
@@ -265,7 +260,7 @@ entered t k =
     let one = one-less (n t x) (x .args .left) (x .pre .1 .2) (λ h. omega (arith, x .pre .1 .1)) in
     let T = rw (sym (z .3 .ensures .0) ∙ z .4 .taken) at (z .3 .ensures .1) in
     let call = z .9 in (
-      same-here t x (y .7 ∙ z .12) (y .8 ∙ z .13) (y .9 ∙ z .14) (y .10 ∙ z .15) (y .11)
+      same-pace (n t x) (m t x) (w t x) (cap t x) (cs t x) (vs t x) (bs t x) (ks t x) (x .args .own) (i t x) (x .args .j) (tr t x) (pl t x) (pg t x) (x .args .seen) (y .7 ∙ z .12) (y .8 ∙ z .13) (y .9 ∙ z .14) (y .10 ∙ z .15) (y .11)
           (own-on t x o _ e hv some on _ _ _ _ (call .ensures .1 .1 .1 .0 .1) (rw (one, T) at (call .ensures .1 .1 .0)) (call .ensures .1 .1 .1 .0 .0) (rw one at (call .ensures .1 .0)) (call .kept .1 .1 .1 .1 .1 .1 .1 .1 .1 .1 .0) (call .ensures .1 .1 .1 .1) (rw (one, bytes, T) at (call .ensures .0))),
       past,
     ))
@@ -274,19 +269,19 @@ entered t k =
     let some = arc-some bytes (y .5 .ensures) (z .0 .taken) in
     let on = rw (z .1 .ensures, bytes) at (sym (z .3 .ensures .0) ∙ z .4 .taken) in
     let T = rw (sym (z .3 .ensures .0) ∙ z .4 .taken) at (z .3 .ensures .1) in
-    (same-here t x (y .7 ∙ z .6 ∙ T) (y .8 ∙ z .7) (y .9 ∙ z .8) (y .10 ∙ z .9) (y .11) (own-last t x o _ e hv some on (omega (arith, z .5 .left, x .pre .1 .2))), past))
+    (same-pace (n t x) (m t x) (w t x) (cap t x) (cs t x) (vs t x) (bs t x) (ks t x) (x .args .own) (i t x) (x .args .j) (tr t x) (pl t x) (pg t x) (x .args .seen) (y .7 ∙ z .6 ∙ T) (y .8 ∙ z .7) (y .9 ∙ z .8) (y .10 ∙ z .9) (y .11) (own-last t x o _ e hv some on (omega (arith, z .5 .left, x .pre .1 .2))), past))
     (λ u. ⊎-elim
     (λ z.
     let some = arc-some bytes (y .5 .ensures) (z .0 .taken) in
     let off = rw (z .1 .ensures, bytes) at (sym (z .3 .ensures .0) ∙ z .4 .left) in
     let T = rw (sym (z .3 .ensures .0) ∙ z .4 .left) at (z .3 .ensures .1) in
-    (same-here t x (y .7 ∙ z .5 ∙ T) (y .8 ∙ z .6) (y .9 ∙ z .7) (y .10 ∙ z .8) (y .11) (pace-shut (n t x) (m t x) (w t x) (cap t x) (cs t x) (vs t x) (bs t x) (ks t x) (x .args .own) (i t x) (x .args .j) (tr t x) (pl t x) (pg t x) (x .args .seen) (g t x) (under t x) (x .pre .1 .3) (x .pre .1 .10) (x .pre .1 .11) (x .pre .1 .12) hv p some off), past))
+    (same-pace (n t x) (m t x) (w t x) (cap t x) (cs t x) (vs t x) (bs t x) (ks t x) (x .args .own) (i t x) (x .args .j) (tr t x) (pl t x) (pg t x) (x .args .seen) (y .7 ∙ z .5 ∙ T) (y .8 ∙ z .6) (y .9 ∙ z .7) (y .10 ∙ z .8) (y .11) (pace-shut (n t x) (m t x) (w t x) (cap t x) (cs t x) (vs t x) (bs t x) (ks t x) (x .args .own) (i t x) (x .args .j) (tr t x) (pl t x) (pg t x) (x .args .seen) (g t x) (under t x) (x .pre .1 .3) (x .pre .1 .10) (x .pre .1 .11) (x .pre .1 .12) hv p some off), past))
     (λ z.
-    (same-here t x (y .7 ∙ z .1) (y .8 ∙ z .2) (y .9 ∙ z .3) (y .10 ∙ z .4) (y .11) (pace-none (n t x) (m t x) (w t x) (cap t x) (cs t x) (vs t x) (bs t x) (ks t x) (x .args .own) (i t x) (x .args .j) (tr t x) (pl t x) (pg t x) (x .args .seen) (g t x) (under t x) (x .pre .1 .3) (x .pre .1 .10) (x .pre .1 .11) (x .pre .1 .12) hv p (rw bytes at (sym (y .5 .ensures) ∙ z .0 .left))), past))
+    (same-pace (n t x) (m t x) (w t x) (cap t x) (cs t x) (vs t x) (bs t x) (ks t x) (x .args .own) (i t x) (x .args .j) (tr t x) (pl t x) (pg t x) (x .args .seen) (y .7 ∙ z .1) (y .8 ∙ z .2) (y .9 ∙ z .3) (y .10 ∙ z .4) (y .11) (pace-none (n t x) (m t x) (w t x) (cap t x) (cs t x) (vs t x) (bs t x) (ks t x) (x .args .own) (i t x) (x .args .j) (tr t x) (pl t x) (pg t x) (x .args .seen) (g t x) (under t x) (x .pre .1 .3) (x .pre .1 .10) (x .pre .1 .11) (x .pre .1 .12) hv p (rw bytes at (sym (y .5 .ensures) ∙ z .0 .left))), past))
     u)
     u)
     (y .6 .came))
-    (λ y. (same-here t x (y .1) (y .2) (y .3) (y .4) (y .5) (free-begins t x (y .0 .left)), (λ h. absurd (true≢false (sym h ∙ y .0 .left)))))
+    (λ y. (same-pace (n t x) (m t x) (w t x) (cap t x) (cs t x) (vs t x) (bs t x) (ks t x) (x .args .own) (i t x) (x .args .j) (tr t x) (pl t x) (pg t x) (x .args .seen) (y .1) (y .2) (y .3) (y .4) (y .5) (free-begins t x (y .0 .left)), (λ h. absurd (true≢false (sym h ∙ y .0 .left)))))
     (k .if1 .came)
 
 -- where a turn of the loop begins
@@ -368,7 +363,7 @@ node-node-requires t c κs =
     let p = own-begins t x (c .before .before .before .before .before .before .before .before .before .before .before .before .before .before .if1 .taken) _ (c .before .before .before .before .before .before .before .before .before .before .before .before .step .ensures) in
     let goes = c .before .before .before .before .before .goes in
     let on = rw (sym (goes .ensures .0) ∙ c .before .before .before .before .if4 .taken) at (goes .ensures .1) in
-    let next = next-place t x hv some p (c .before .before .before .if5 .taken) (p .few) (p .page-long) (p .plan-long) in (
+    let next = next-place t x hv some p (c .before .before .before .if5 .taken) in (
       omega (arith, x .pre .0, x .pre .1 .1),
       (
         g t x,
@@ -465,7 +460,7 @@ node-node-requires-2 t c κs =
     let p = stands t k .0 in
     let goes = c .before .before .before .before .before .before .goes2 in
     let on = rw (sym (goes .ensures .0) ∙ c .before .before .before .before .before .if8 .taken) at (goes .ensures .1) in
-    let next = next-place t x hv some p (c .before .before .before .if9 .left) (p .few) (p .page-long) (p .plan-long) in (
+    let next = next-place t x hv some p (c .before .before .before .if9 .left) in (
       omega (arith, x .pre .0, x .pre .1 .1),
       (
         g t x,
@@ -512,21 +507,21 @@ node-loop-again t c =
     let some = arc-some bytes (c .before .before .is-arc2 .ensures) (y .0 .taken) in
     let on = rw (y .2 .ensures, bytes) at (sym (y .4 .ensures .0) ∙ y .5 .taken) in
     let T = rw (sym (y .4 .ensures .0) ∙ y .5 .taken) at (y .4 .ensures .1) in
-    (same-pace (n t x) (m t x) (w t x) (cap t x) (cs t x) (vs t x) (bs t x) (ks t x) (x .args .own) (i t x) (x .args .j) tr pl pg s (y .13 ∙ T) (y .14) (y .15) (y .16) (pace-last (n t x) (m t x) (w t x) (cap t x) (cs t x) (vs t x) (bs t x) (ks t x) (x .args .own) (i t x) (x .args .j) tr pl pg s (g t x) (under t x) (x .pre .1 .3) (x .pre .1 .10) (x .pre .1 .11) l hv p some on false other (λ h. absurd (true≢false (sym h))) (omega (arith, y .7 .taken, x .pre .1 .2)) _ _ (y .10 .kept .1 .1 .1 .0) (omega (arith, y .10 .ensures .1, y .1 .left)) (y .10 .ensures .0)), past))
+    (same-pace (n t x) (m t x) (w t x) (cap t x) (cs t x) (vs t x) (bs t x) (ks t x) (x .args .own) (i t x) (x .args .j) tr pl pg s (y .13 ∙ T) (y .14) (y .15) (y .16) refl (pace-last (n t x) (m t x) (w t x) (cap t x) (cs t x) (vs t x) (bs t x) (ks t x) (x .args .own) (i t x) (x .args .j) tr pl pg s (g t x) (under t x) (x .pre .1 .3) (x .pre .1 .10) (x .pre .1 .11) l hv p some on false other (λ h. absurd (true≢false (sym h))) (omega (arith, y .7 .taken, x .pre .1 .2)) _ _ (y .10 .kept .1 .1 .1 .0) (omega (arith, y .10 .ensures .1, y .1 .left)) (y .10 .ensures .0)), past))
     (λ u. ⊎-elim
     (λ y.
     let some = arc-some bytes (c .before .before .is-arc2 .ensures) (y .0 .taken) in
     let on = rw (y .2 .ensures, bytes) at (sym (y .4 .ensures .0) ∙ y .5 .taken) in
     let T = rw (sym (y .4 .ensures .0) ∙ y .5 .taken) at (y .4 .ensures .1) in
     let call = y .11 in
-    (same-pace (n t x) (m t x) (w t x) (cap t x) (cs t x) (vs t x) (bs t x) (ks t x) (x .args .own) (i t x) (x .args .j) tr pl pg s (y .14) (y .15) (y .16) (y .17) (pace-on (n t x) (m t x) (w t x) (cap t x) (cs t x) (vs t x) (bs t x) (ks t x) (x .args .own) (i t x) (x .args .j) tr pl pg s (g t x) (under t x) (x .pre .1 .3) (x .pre .1 .10) (x .pre .1 .11) l hv p some on false other (λ h. absurd (true≢false (sym h))) _ _ _ _ (call .ensures .1 .1 .1 .0 .1) (rw (one, T) at (call .ensures .1 .1 .0)) (call .ensures .1 .1 .1 .0 .0) (rw one at (call .ensures .1 .0)) (call .kept .1 .1 .1 .1 .1 .1 .1 .1 .1 .1 .0) (call .ensures .1 .1 .1 .1) (rw (one, bytes, T) at (call .ensures .0))), past))
+    (same-pace (n t x) (m t x) (w t x) (cap t x) (cs t x) (vs t x) (bs t x) (ks t x) (x .args .own) (i t x) (x .args .j) tr pl pg s (y .14) (y .15) (y .16) (y .17) refl (pace-on (n t x) (m t x) (w t x) (cap t x) (cs t x) (vs t x) (bs t x) (ks t x) (x .args .own) (i t x) (x .args .j) tr pl pg s (g t x) (under t x) (x .pre .1 .3) (x .pre .1 .10) (x .pre .1 .11) l hv p some on false other (λ h. absurd (true≢false (sym h))) _ _ _ _ (call .ensures .1 .1 .1 .0 .1) (rw (one, T) at (call .ensures .1 .1 .0)) (call .ensures .1 .1 .1 .0 .0) (rw one at (call .ensures .1 .0)) (call .kept .1 .1 .1 .1 .1 .1 .1 .1 .1 .1 .0) (call .ensures .1 .1 .1 .1) (rw (one, bytes, T) at (call .ensures .0))), past))
     (λ u. ⊎-elim
     (λ y.
     let some = arc-some bytes (c .before .before .is-arc2 .ensures) (y .0 .taken) in
     let off = rw (y .2 .ensures, bytes) at (sym (y .4 .ensures .0) ∙ y .5 .left) in
     let T = rw (sym (y .4 .ensures .0) ∙ y .5 .left) at (y .4 .ensures .1) in
-    (same-pace (n t x) (m t x) (w t x) (cap t x) (cs t x) (vs t x) (bs t x) (ks t x) (x .args .own) (i t x) (x .args .j) tr pl pg s (y .6 ∙ T) (y .7) (y .8) (y .9) (pace-shut (n t x) (m t x) (w t x) (cap t x) (cs t x) (vs t x) (bs t x) (ks t x) (x .args .own) (i t x) (x .args .j) tr pl pg s (g t x) (under t x) (x .pre .1 .3) (x .pre .1 .10) (x .pre .1 .11) l hv p some off), past))
-    (λ y. (same-pace (n t x) (m t x) (w t x) (cap t x) (cs t x) (vs t x) (bs t x) (ks t x) (x .args .own) (i t x) (x .args .j) tr pl pg s (y .1) (y .2) (y .3) (y .4) (pace-none (n t x) (m t x) (w t x) (cap t x) (cs t x) (vs t x) (bs t x) (ks t x) (x .args .own) (i t x) (x .args .j) tr pl pg s (g t x) (under t x) (x .pre .1 .3) (x .pre .1 .10) (x .pre .1 .11) l hv p (rw bytes at (sym (c .before .before .is-arc2 .ensures) ∙ y .0 .left))), past))
+    (same-pace (n t x) (m t x) (w t x) (cap t x) (cs t x) (vs t x) (bs t x) (ks t x) (x .args .own) (i t x) (x .args .j) tr pl pg s (y .6 ∙ T) (y .7) (y .8) (y .9) refl (pace-shut (n t x) (m t x) (w t x) (cap t x) (cs t x) (vs t x) (bs t x) (ks t x) (x .args .own) (i t x) (x .args .j) tr pl pg s (g t x) (under t x) (x .pre .1 .3) (x .pre .1 .10) (x .pre .1 .11) l hv p some off), past))
+    (λ y. (same-pace (n t x) (m t x) (w t x) (cap t x) (cs t x) (vs t x) (bs t x) (ks t x) (x .args .own) (i t x) (x .args .j) tr pl pg s (y .1) (y .2) (y .3) (y .4) refl (pace-none (n t x) (m t x) (w t x) (cap t x) (cs t x) (vs t x) (bs t x) (ks t x) (x .args .own) (i t x) (x .args .j) tr pl pg s (g t x) (under t x) (x .pre .1 .3) (x .pre .1 .10) (x .pre .1 .11) l hv p (rw bytes at (sym (c .before .before .is-arc2 .ensures) ∙ y .0 .left))), past))
     u)
     u)
     (c .before .if6 .came)
