@@ -4,10 +4,11 @@ ghost use mathlib.Core.List.{[], _∷_};
 ghost use Prim.Native.Nat.{_+_, _≤_, _<_};
 ghost use lib.IntN.{natAbs};
 ghost use lib.ListN.{length, take, drop};
-ghost use Rattle.meaning.specs.Problem.{stepCount, shareOf, firstFault};
-ghost use Rattle.meaning.specs.Running.{sizes, guard};
+ghost use Rattle.meaning.specs.Plan.{stepsOf};
+ghost use Rattle.meaning.specs.Problem.{stepCount, among, shareOf, firstFault};
+ghost use Rattle.meaning.specs.Running.{greatestSize, sizes, guard};
 ghost use Rattle.problem.specs.Held.{termsOf, campaignOf};
-ghost use Rattle.guard.specs.Size.{ShareSize, GreatestSize, guardIn};
+ghost use Rattle.guard.specs.Size.{LastStep, GreatestSize, guardIn};
 use problem::Problem;
 use problem::ROW;
 use problem::STEPS;
@@ -19,41 +20,48 @@ pub fn size_of(z: i32) -> u64
     if z < 0 { (!z) as u64 + 1 } else { z as u64 }
 }
 
-// The size of a rule's share of slot i and step v.
-fn share_size(kind: u8, values: u16, slots: u32, coef: i32, i: usize, v: usize) -> u64
-    requires { ⌜ (i < 24) × (v < stepCount) ⌝ }
-    ensures { λ r. ⌜ ShareSize kind values slots coef i v r ⌝ }
+// The last step of a slot's set; 0 where it has none.
+fn last_step(set: u16) -> u64
+    ensures { λ r. ⌜ LastStep set r ⌝ }
 {
-    match kind {
-        1 => {
-            if problem::counts(values, slots, i, v) {
-                1
-            } else {
-                0
-            }
-        }
-        2 => size_of(coef) * (v as u64),
-        _ => 0,
-    }
-}
-
-// The greatest over the steps of the slot's set.
-fn greatest_size(kind: u8, values: u16, slots: u32, coef: i32, i: usize, set: u16) -> u64
-    requires { ⌜ i < 24 ⌝ }
-    ensures { λ r. ⌜ GreatestSize kind values slots coef i set r ⌝ }
-{
-    let mut most: u64 = 0;
+    let mut last: u64 = 0;
     let mut v: usize = 0;
     while v < STEPS {
         if problem::allows(set, v) {
-            let z = share_size(kind, values, slots, coef, i, v);
-            if most < z {
-                most = z;
+            last = v as u64;
+        }
+        v += 1;
+    }
+    last
+}
+
+// 1 where an among rule counts a step of the slot's set, else 0.
+fn counted(values: u16, slots: u32, i: usize, set: u16) -> u64
+    requires { ⌜ i < 24 ⌝ }
+    ensures { λ r. ⌜ r ≡ greatestSize (shareOf (among values slots) i) (stepsOf stepCount set) ⌝ }
+{
+    let mut v: usize = 0;
+    while v < STEPS {
+        if problem::allows(set, v) {
+            if problem::counts(values, slots, i, v) {
+                return 1;
             }
         }
         v += 1;
     }
-    most
+    0
+}
+
+// The greatest size of a rule's share over the steps of the slot's set.
+fn greatest_size(kind: u8, values: u16, slots: u32, coef: i32, i: usize, set: u16) -> u64
+    requires { ⌜ i < 24 ⌝ }
+    ensures { λ r. ⌜ GreatestSize kind values slots coef i set r ⌝ }
+{
+    match kind {
+        1 => counted(values, slots, i, set),
+        2 => size_of(coef) * last_step(set),
+        _ => 0,
+    }
 }
 
 // The sum over the n slots. The coefficients stand from `at` on.

@@ -1,112 +1,55 @@
--- `greatest_size` meets its contract: at each turn the greater of `most` and of the sizes that are left is the greatest of the whole set.
-use mathlib.Core.Path.{_≡_, sym, _∙_}
-use mathlib.Core.Bool.{Bool, cond}
-use mathlib.Core.List.{List, _∷_}
-use mathlib.Core.Logic.{⊎-elim}
-use Prim.Native.Nat.{ℕ, suc, max, _+_, _-_, _≤_, _<_}
-use native.Mathlib.Numerals.{add-one}
+-- `greatest_size` meets its contract, by the kind: 1 or 0, the size of the coefficient times the last step, or nothing.
+use mathlib.Core.Path.{_≡_}
+use mathlib.Core.List.{[]}
+use Prim.Native.Nat.{ℕ, _*_, _≤_}
+use native.Mathlib.Nat.{mul-le-mul}
 use native.Mathlib.Omega.{arith}
 use borrow.Author.Needs.{needs}
-use borrow.Author.Tests.{lt-ltb}
-use lib.IntN.{ℤ, pos}
-use lib.ListN.{getD}
+use borrow.Author.Tests.{ne-eqb}
+use lib.IntN.{ℤ, natAbs}
 use mir.Facts.{toZ-ofZ}
-use mir.Syntax.{w32}
-use mir.Val.{toZ}
-use Rattle.laws.specs.Lists.{keep, from}
-use Rattle.meaning.specs.Plan.{bit, allows, stepsOf}
-use Rattle.meaning.specs.Problem.{shareOf}
+use Rattle.meaning.specs.Plan.{stepsOf}
+use Rattle.meaning.specs.Problem.{among, shareOf}
 use Rattle.meaning.specs.Running.{greatestSize}
-use Rattle.problem.specs.Held.{termsOf}
+use Rattle.guard.specs.Size.{LastStep, GreatestSize}
+use Rattle.guard.proofs.Steps.{among-most, weighed-greatest}
 use Rattle.guard.proofs.greatest_size.Statement.{statement}
 use Rattle.guard.proofs.greatest_size.Tie as tie
 
--- the greatest over the steps of the set from v on
-abbrev left : (ℕ → ℤ) → ℕ → ℕ → ℕ
-left f set v = greatestSize f (keep (bit set) (from v (8 - v)))
+-- ---- the three answers
+module _ {kind values slots : ℕ} {coef : ℤ} {i set r : ℕ} where
+  counts : kind ≡ 1 → r ≡ greatestSize (shareOf (among values slots) i) (stepsOf 8 set) → GreatestSize kind values slots coef i set r
+  counts k e = record { is = λ c d. rw k e; most = omega (arith, among-most values slots i (stepsOf 8 set)) }
 
-module _ (f : ℕ → ℤ) (set v : ℕ) where
-  left-more : {t : Bool} → v < 8 → allows 8 set v ≡ t → left f set v ≡ greatestSize f (let l = keep (bit set) (from (v + 1) (8 - (v + 1))) in cond t (v ∷ l) l)
-  left-more {t} h e =
-      let n : 8 - v ≡ suc (8 - (v + 1)) = omega arith in
-      let b : bit set v ≡ t = rw (lt-ltb v 8 h) at e in
-      rw (n, b, add-one)
+  weighs : kind ≡ 2 → LastStep set r → natAbs coef ≤ 2147483648 → GreatestSize kind values slots coef i set (natAbs coef * r)
+  weighs k s l = record { is = λ c e. rw (k, weighed-greatest c i (stepsOf 8 set), e, ← s .is); most = omega (arith, mul-le-mul l (s .most)) }
 
-  left-end : 8 ≤ v → left f set v ≡ 0
-  left-end h =
-      let n : 8 - v ≡ 0 = omega arith in
-      rw n
+other-kind : {kind values slots : ℕ} {coef : ℤ} {i set : ℕ} → (kind ≡ 1 → ⊥) → (kind ≡ 2 → ⊥) → GreatestSize kind values slots coef i set 0
+other-kind {kind} {i = i} {set = set} k l = record { is = λ c e. rw (ne-eqb kind 1 k, ne-eqb kind 2 l, weighed-greatest [] i (stepsOf 8 set)) (omega arith); most = omega arith }
 
-abbrev Inv-loop : tie.InvT-loop
-Inv-loop kind values slots coef i set most₀ v₀ most v =
-    (v ≤ 8)
-    × (most ≤ 15032385536)
-    × ((c : List ℤ)
-    → getD c i (pos 0) ≡ toZ w32 coef
-    → max most (left (shareOf (termsOf kind values slots c) i) set v) ≡ greatestSize (shareOf (termsOf kind values slots c) i) (stepsOf 8 set))
+counted-requires : tie.Need-counted-requires
+counted-requires c κs = search needs
 
-abbrev μ-loop : tie.MeasureT-loop
-μ-loop kind values slots coef i set most₀ v₀ most v = 8 - v
+size-of-requires : tie.Need-size-of-requires
+size-of-requires c κs = search needs
 
-loop-holds : tie.Need-loop-holds Inv-loop μ-loop
-loop-holds c = (omega arith, omega arith, λ l e. omega arith)
+last-step-requires : tie.Need-last-step-requires
+last-step-requires c κs = search needs
 
-allows-requires : tie.Need-allows-requires Inv-loop μ-loop
-allows-requires c κs = tt
+mul-result : tie.Need-mul-result
+mul-result c = record { fits = omega (arith, mul-le-mul (c .before .size-of .ensures .1) (c .last-step .ensures .most)) }
 
-share-size-requires : tie.Need-share-size-requires Inv-loop μ-loop
-share-size-requires c κs = search needs
+returns : tie.Need-returns
+returns c = counts (c .before .match .keys1) (c .counted .ensures)
 
-add-v : tie.Need-add-v Inv-loop μ-loop
-add-v c = search needs
+returns-2 : tie.Need-returns-2
+returns-2 c =
+    let start = c .before .before .before in
+    let e : c .before .size-of .result ≡ natAbs (start .args .coef) = rw (toZ-ofZ (start .fits .coef)) at (c .before .size-of .ensures .0) in
+    rw e (weighs (c .before .before .match .keys2) (c .last-step .ensures) (omega arith))
 
-loop-less : tie.Need-loop-less Inv-loop μ-loop
-loop-less c = search needs
-
-loop-again : tie.Need-loop-again Inv-loop μ-loop
-loop-again c =
-    let a = c .before .before .before .before .args in
-    let head = c .before .before .before .loop in
-    let asked = c .before .allows .ensures in
-    let h : head .v < 8 = omega arith in
-    let f : List ℤ → ℕ → ℤ = λ l. shareOf (termsOf (a .kind) (a .values) (a .slots) l) (a .i) in
-    ⊎-elim
-    (λ w. (
-      omega arith,
-      omega (arith, w .1 .ensures .most),
-      λ l e. omega (arith, left-more (f l) (a .set) (head .v) h (sym asked ∙ w .0 .taken), w .1 .ensures .is l e, head .inv .2 l e),
-    ))
-    (⊎-elim
-    (λ w. (
-      omega arith,
-      omega arith,
-      λ l e. omega (arith, left-more (f l) (a .set) (head .v) h (sym asked ∙ w .0 .taken), w .1 .ensures .is l e, head .inv .2 l e),
-    ))
-    (λ w. (omega arith, omega arith, λ l e. omega (arith, left-more (f l) (a .set) (head .v) h (sym asked ∙ w .0 .left), head .inv .2 l e))))
-    (c .if1 .came)
-
-returns : tie.Need-returns Inv-loop μ-loop
-returns c =
-    let start = c .before .before in
-    let a = start .args in
-    let head = c .before .loop in
-    record {
-      is = λ l e.
-          let f = shareOf (termsOf (a .kind) (a .values) (a .slots) l) (a .i) in
-          omega (arith, left-end f (a .set) (head .v) (omega arith), head .inv .2 l (e ∙ sym (toZ-ofZ (start .fits .coef))));
-      most = omega arith;
-    }
+returns-3 : tie.Need-returns-3
+returns-3 c = other-kind (c .match .rest .0 .1) (c .match .rest .1)
 
 pub greatest-size-spec : {M : Type 1} → statement M
-greatest-size-spec =
-    tie.close
-    (tie.spec
-    Inv-loop
-    μ-loop
-    loop-holds
-    allows-requires
-    share-size-requires
-    add-v
-    loop-less
-    loop-again
-    returns)
+greatest-size-spec = tie.close (tie.spec counted-requires size-of-requires last-step-requires mul-result returns returns-2 returns-3)

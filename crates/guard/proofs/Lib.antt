@@ -1,0 +1,2 @@
+-- Laws that only proofs cite.
+pub mod Steps
