@@ -9,9 +9,15 @@ use Rattle.laws.proofs.Each.{Each}
 use Rattle.meaning.specs.Problem.{stepCount, mostSlots}
 use Rattle.meaning.specs.Calls.{Choice, emptyStart, standing, new}
 use Rattle.meaning.specs.Calls as paper
+use Rattle.problem.specs.declared.Problem.{Problem}
 use Rattle.judge.specs.declared.Judged.{Judged}
 use Rattle.judge.specs.declared.Which.{Which}
 use Rattle.judge.specs.declared.Which.the-variants.{EmptyStart, Standing, New}
+
+-- the problem that has these numbers and arrays
+abbrev pub having : ℕ → ℕ → List ℕ → List ℤ → List ℕ → List ℕ → List ℕ → List ℤ → List ℤ → List ℤ → Problem
+having n m sets weights kinds values slots coefs lb ub =
+    record { n = n; m = m; sets = sets; weights = weights; kinds = kinds; values = values; slots = slots; coefs = coefs; lb = lb; ub = ub }
 
 -- number, lawful or not, cost
 abbrev pub judgedAs : paper.Judged → Judged

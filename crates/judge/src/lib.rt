@@ -9,7 +9,7 @@ ghost use Rattle.meaning.specs.Plan.{allowed, summed, keepsRule};
 ghost use Rattle.meaning.specs.Problem.{stepCount, version1, shareOf, weighed};
 ghost use Rattle.meaning.specs.Calls.{judged, betterOf};
 ghost use Rattle.problem.specs.Held.{termsOf, campaignOf, faultIn};
-ghost use Rattle.judge.specs.Answers.{Steps, RightCoefs, judgedAs, choiceOf};
+ghost use Rattle.judge.specs.Answers.{having, Steps, RightCoefs, judgedAs, choiceOf};
 use problem::Problem;
 use problem::ROW;
 
@@ -69,22 +69,34 @@ fn total_of(kind: u8, values: u16, slots: u32, coefs: &[i32], at: usize, plan: &
 }
 
 // The plan keeps every rule.
-fn keeps_rules(p: Problem, plan: &[u8]) -> bool
-    requires { ⌜ (faultIn version1 p ≡ 0) × (length (now plan) ≡ p .n) × Steps (now plan) ⌝ }
-    ensures { λ r. ⌜ r ≡ every (keepsRule (now (plan .entry))) (campaignOf p .rules) ⌝ }
+fn keeps_rules<'a>(
+    n: usize,
+    m: usize,
+    sets: &'a [u16; 24],
+    weights: &'a [i32; 24],
+    kinds: &'a [u8; 8],
+    values: &'a [u16; 8],
+    slots: &'a [u32; 8],
+    coefs: &'a [i32; 192],
+    lb: &'a [i32; 8],
+    ub: &'a [i32; 8],
+    plan: &[u8],
+) -> bool
+    requires { let p = having n m (now sets) (now weights) (now kinds) (now values) (now slots) (now coefs) (now lb) (now ub) in ⌜ (faultIn version1 p ≡ 0) × (length (now plan) ≡ n) × Steps (now plan) ⌝ }
+    ensures { λ r. let p = having n m (now (sets .entry)) (now (weights .entry)) (now (kinds .entry)) (now (values .entry)) (now (slots .entry)) (now (coefs .entry)) (now (lb .entry)) (now (ub .entry)) in ⌜ r ≡ every (keepsRule (now (plan .entry))) (campaignOf p .rules) ⌝ }
 {
     let mut k: usize = 0;
-    while k < p.m {
-        let kind = p.kinds[k];
-        let values = p.values[k];
-        let slots = p.slots[k];
-        let lb = p.lb[k];
-        let ub = p.ub[k];
-        let total = total_of(kind, values, slots, &p.coefs, k * ROW, plan);
-        if total < lb {
+    while k < m {
+        let kind = kinds[k];
+        let value = values[k];
+        let slot = slots[k];
+        let low = lb[k];
+        let high = ub[k];
+        let total = total_of(kind, value, slot, coefs, k * ROW, plan);
+        if total < low {
             return false;
         }
-        if ub < total {
+        if high < total {
             return false;
         }
         k += 1;
@@ -109,25 +121,49 @@ fn cost_of(weights: &[i32], plan: &[u8]) -> i32
 }
 
 // Lawful exactly if the length is n, each step is allowed and every rule holds; the cost goes with it.
-pub fn judge_plan(p: Problem, plan: &[u8]) -> Judged
-    requires { ⌜ faultIn version1 p ≡ 0 ⌝ }
-    ensures { λ r. ⌜ r ≡ judgedAs (judged (campaignOf p) (now (plan .entry))) ⌝ }
+fn judge_by<'a>(
+    n: usize,
+    m: usize,
+    sets: &'a [u16; 24],
+    weights: &'a [i32; 24],
+    kinds: &'a [u8; 8],
+    values: &'a [u16; 8],
+    slots: &'a [u32; 8],
+    coefs: &'a [i32; 192],
+    lb: &'a [i32; 8],
+    ub: &'a [i32; 8],
+    plan: &[u8],
+) -> Judged
+    requires { let p = having n m (now sets) (now weights) (now kinds) (now values) (now slots) (now coefs) (now lb) (now ub) in ⌜ faultIn version1 p ≡ 0 ⌝ }
+    ensures { λ r. let p = having n m (now (sets .entry)) (now (weights .entry)) (now (kinds .entry)) (now (values .entry)) (now (slots .entry)) (now (coefs .entry)) (now (lb .entry)) (now (ub .entry)) in ⌜ r ≡ judgedAs (judged (campaignOf p) (now (plan .entry))) ⌝ }
 {
-    if !is_allowed(p.n, &p.sets, plan) {
+    if !is_allowed(n, sets, plan) {
         return Judged {
             number: 0,
             lawful: false,
             cost: 0,
         };
     }
-    if !keeps_rules(p, plan) {
+    if !keeps_rules(
+        n,
+        m,
+        sets,
+        weights,
+        kinds,
+        values,
+        slots,
+        coefs,
+        lb,
+        ub,
+        plan,
+    ) {
         return Judged {
             number: 0,
             lawful: false,
             cost: 0,
         };
     }
-    let cost = cost_of(&p.weights, plan);
+    let cost = cost_of(weights, plan);
     Judged {
         number: 0,
         lawful: true,
@@ -135,13 +171,57 @@ pub fn judge_plan(p: Problem, plan: &[u8]) -> Judged
     }
 }
 
+// The same, of a problem by value.
+pub fn judge_plan(p: Problem, plan: &[u8]) -> Judged
+    requires { ⌜ faultIn version1 p ≡ 0 ⌝ }
+    ensures { λ r. ⌜ r ≡ judgedAs (judged (campaignOf p) (now (plan .entry))) ⌝ }
+{
+    judge_by(
+        p.n,
+        p.m,
+        &p.sets,
+        &p.weights,
+        &p.kinds,
+        &p.values,
+        &p.slots,
+        &p.coefs,
+        &p.lb,
+        &p.ub,
+        plan,
+    )
+}
+
 // A lawful one before an unlawful one, then the lower cost, then the standing one; the empty start if neither is lawful.
 pub fn better_of(p: Problem, standing: &[u8], new: &[u8]) -> Which
     requires { ⌜ faultIn version1 p ≡ 0 ⌝ }
     ensures { λ r. ⌜ choiceOf r ≡ betterOf (campaignOf p) (now (standing .entry)) (now (new .entry)) ⌝ }
 {
-    let a = judge_plan(p, standing);
-    let b = judge_plan(p, new);
+    let a = judge_by(
+        p.n,
+        p.m,
+        &p.sets,
+        &p.weights,
+        &p.kinds,
+        &p.values,
+        &p.slots,
+        &p.coefs,
+        &p.lb,
+        &p.ub,
+        standing,
+    );
+    let b = judge_by(
+        p.n,
+        p.m,
+        &p.sets,
+        &p.weights,
+        &p.kinds,
+        &p.values,
+        &p.slots,
+        &p.coefs,
+        &p.lb,
+        &p.ub,
+        new,
+    );
     if !b.lawful {
         if a.lawful {
             return Which::Standing;
