@@ -16,6 +16,8 @@ use Rattle.problem.specs.declared.Problem.{Problem}
 use Rattle.problem.specs.Held.{saidAt, campaignOf}
 use Rattle.problem.proofs.Faultless.{Right}
 use Rattle.numbers.specs.Whole.{Bounding}
+use Rattle.slot.specs.Tables.{leastsIn, mostsIn, Tabled}
+use Rattle.slot.proofs.Laid.{part-at}
 use Rattle.lent.proofs.Places.{made-at}
 use Rattle.state.specs.declared.Pair.{Pair}
 use Rattle.state.specs.Pairs.{pairOf, Inside}
@@ -31,10 +33,18 @@ use Rattle.building.proofs.Lists.{padded-front}
 abbrev pub boundsIn : Problem → paper.State
 boundsIn p = map boundsOf (campaignOf p .rules)
 
-pub bounds-said : (p : Problem) → boundsAt (p .m) (p .lb) (p .ub) ≡ boundsIn p
-bounds-said p = let ks = from 0 (p .m) in sym (map-map boundsOf ruleOf (map (saidAt p) ks) ∙ map-map (λ k. (k .ub, k .lb)) (saidAt p) ks)
+pub bounds-said : {p : Problem} {coefs : List ℤ} {values : List ℕ} → Tabled p coefs values → boundsAt (p .m) (leastsIn coefs) (mostsIn coefs) ≡ boundsIn p
+bounds-said {p} t =
+    let ks = from 0 (p .m) in
+    (λ d. boundsAt (p .m) (t .leasts-are d) (t .mosts-are d)) ∙ sym (map-map boundsOf ruleOf (map (saidAt p) ks) ∙ map-map (λ k. (k .ub, k .lb)) (saidAt p) ks)
 
-module _ (m : ℕ) (lbs ubs : List ℤ) where
+module _ (m : ℕ) (coefs : List ℤ) where
+  abbrev lbs : List ℤ
+  lbs = leastsIn coefs
+
+  abbrev ubs : List ℤ
+  ubs = mostsIn coefs
+
   abbrev all : paper.State
   all = boundsAt m lbs ubs
 
@@ -46,17 +56,29 @@ module _ (m : ℕ) (lbs ubs : List ℤ) where
   bounds-long : length all ≡ m
   bounds-long = length-map (from 0 m) (λ k. (getD ubs k (pos 0), getD lbs k (pos 0))) ∙ length-from 0 m
 
-  pub bounded-more : {l : List Pair} {r : ℕ} → Bounded l r → (x : Pair) → r < m → x ≡ record { lo = back (getD ubs r (pos 0)); hi = back (pos 0 -ℤ back (getD lbs r (pos 0))) } → Bounded (set l r x) (r + 1)
-  bounded-more {l} {r} b x h e =
-      let few = b .right .few in
-      let value = getD-padded 8 all r noPair (omega (arith, bounds-long)) ∙ made-at (λ k. (getD ubs k (pos 0), getD lbs k (pos 0))) m r noPair h in
-      record {
-        right = b .right;
-        low = omega arith;
-        is =
-            stored pairOf l r x (padded 8 noPair all) (replicate 8 noPair) noPair (omega (arith, length-padded noPair 8 all)) (omega arith) (b .is)
-            (ap pairOf e ∙ (λ d. (back-is (b .right .high r h) tt d, (ap negℤ (turned (b .right .low r h) tt) ∙ neg-neg (getD lbs r (pos 0))) d)) ∙ sym value);
-      }
+  module _ {l : List Pair} {r : ℕ} (b : Bounded l r) (h : r < m) where
+    few : r < 8
+    few = omega (arith, b .right .few)
+
+    -- a lower bound, where it stands
+    pub bounded-low : Within 200000 (getD coefs (216 + r) (pos 0))
+    bounded-low = rw (← part-at 8 216 coefs (pos 0) r few) (b .right .low r h)
+
+    bounded-high : Within 200000 (getD coefs (224 + r) (pos 0))
+    bounded-high = rw (← part-at 8 224 coefs (pos 0) r few) (b .right .high r h)
+
+    pub bounded-more : (x : Pair) → x ≡ record { lo = back (getD coefs (224 + r) (pos 0)); hi = back (pos 0 -ℤ back (getD coefs (216 + r) (pos 0))) } → Bounded (set l r x) (r + 1)
+    bounded-more x e =
+        let value = getD-padded 8 all r noPair (omega (arith, bounds-long, b .right .few)) ∙ made-at (λ k. (getD ubs k (pos 0), getD lbs k (pos 0))) m r noPair h in
+        let lb = sym (part-at 8 216 coefs (pos 0) r few) in
+        let ub = sym (part-at 8 224 coefs (pos 0) r few) in
+        record {
+          right = b .right;
+          low = omega arith;
+          is =
+              stored pairOf l r x (padded 8 noPair all) (replicate 8 noPair) noPair (omega (arith, length-padded noPair 8 all, few)) (omega (arith, few)) (b .is)
+              (ap pairOf e ∙ (λ d. ((back-is bounded-high tt ∙ ub) d, (ap negℤ (turned bounded-low tt) ∙ neg-neg (getD coefs (216 + r) (pos 0)) ∙ lb) d)) ∙ sym value);
+        }
 
   pub bounded-end : {l : List Pair} {r : ℕ} → Bounded l r → m ≤ r → map pairOf l ≡ padded 8 noPair all
   bounded-end {l} {r} b h =

@@ -15,15 +15,15 @@ use Rattle.meaning.specs.Diagram.{State, mergedState, child, reach, reaches, ma
 use Rattle.meaning.specs.Filter.{Numbers}
 use Rattle.lent.specs.Passes.{Row}
 use Rattle.lent.specs.Vec.{vec, slotVec, rowVec}
-use Rattle.lent.proofs.Vec.{row-at, slot-vec}
+use Rattle.lent.proofs.Vec.{row-at, shares-at, slot-vec}
 use Rattle.lent.proofs.Stated.{Is, Stated, stated-at}
 use Rattle.lent.specs.Small.{Small}
 use Rattle.meaning.proofs.Restricted.{child-length}
-use Rattle.state.specs.Pairs.{Inside, lessened, fitsIn, pairsAt}
+use Rattle.state.specs.Pairs.{Inside, lessened, fitsIn, pairsAt, sharesAt}
 use Rattle.state.proofs.Joined.{noPair}
 use Rattle.state.proofs.Padded.{shareOf, boundsOf, added-child, added-padded, fit-padded, inside-padded}
 use Rattle.state.proofs.Sizes.{inside-more, inside-added, inside-merged, merged-length}
-use Rattle.reach.proofs.Table.{lanes-pairs, step-lanes}
+use Rattle.reach.proofs.Table.{map-padded, lanes-pairs}
 use Rattle.classes.specs.Classes.{Held, Totalled, stateAt, arrivalAt, noNode}
 use Rattle.building.proofs.Filled.{Of, OfIf, fill, Long}
 use Rattle.building.proofs.Lists.{rows-made, map-flat}
@@ -55,9 +55,6 @@ arrivals-long q b xs h = each-more (OfIf (Totals (length (q .rules)) b)) (OfIf (
     own (some c) t = t .long
 
 module _ (q : Campaign) (small : Small q) (i : ℕ) where
-  shares-within : (v : ℕ) → v < 8 → Each (Within 7000) (map (λ r. r .share i v) (q .rules))
-  shares-within v h = each-map (λ (r : Rule). (i v : ℕ) → v < 8 → Within 7000 (r .share i v)) (Within 7000) (λ r. r .share i v) (λ r f. f i v h) (q .rules) (small .shares)
-
   shares-inside : (v : ℕ) → v < 8 → Inside 7000 (map (shareOf i v) (q .rules))
   shares-inside v h =
       each-map (λ (r : Rule). (i v : ℕ) → v < 8 → Within 7000 (r .share i v)) (λ p. Within 7000 (p .0) × Within 7000 (p .1)) (shareOf i v) (λ r f. (f i v h, f i v h)) (q .rules) (small .shares)
@@ -69,8 +66,10 @@ module _ (q : Campaign) (small : Small q) (i : ℕ) where
   }
 
   -- the shares of a step, as they stand in the slot's row
-  shares-at : (v : ℕ) → v < 8 → pairsAt (slotVec q i) (v * 17) ≡ padded 8 noPair (map (shareOf i v) (q .rules))
-  shares-at v h = lanes-pairs (slotVec q i) (v * 17) (map (shareOf i v) (q .rules)) (q .price i v) (step-lanes q small i v h)
+  step-at : (v : ℕ) → v < 8 → sharesAt (slotVec q i) v ≡ padded 8 noPair (map (shareOf i v) (q .rules))
+  step-at v h =
+      let shares = map (λ (r : Rule). r .share i v) (q .rules) in
+      ap (map (λ z. (z, z))) (shares-at q small i v h) ∙ map-padded (λ z. (z, z)) 8 (pos 0) shares ∙ ap (padded 8 noPair) (map-map (λ z. (z, z)) (λ r. r .share i v) (q .rules))
 
   -- ---- the row of a layer's nodes: their numbers have their states
   module _ (ns : List Node) (few : length ns ≤ 16) (b : ℕ) (totals : Nodes q b ns) (ds : List Numbers) (stated : Stated ds ns) where
@@ -93,7 +92,7 @@ module _ (q : Campaign) (small : Small q) (i : ℕ) where
       nodes = row .long;
       slot = slot-vec q small i .long;
       wide = row .inside;
-      shares = λ v h. rw (shares-at v h) (inside-padded 10000 8 (map (shareOf i v) (q .rules)) (inside-more 7000 10000 (omega arith) (map (shareOf i v) (q .rules)) (shares-inside v h)));
+      shares = λ v h. rw (step-at v h) (inside-padded 10000 8 (map (shareOf i v) (q .rules)) (inside-more 7000 10000 (omega arith) (map (shareOf i v) (q .rules)) (shares-inside v h)));
     }
 
     long-at : (j : ℕ) → j < length ns → length (getD ns j noNode .0) ≡ length (q .rules)
@@ -106,7 +105,7 @@ module _ (q : Campaign) (small : Small q) (i : ℕ) where
         let n = getD ns j noNode in
         let shares = map (shareOf i v) (q .rules) in
         let long : length (n .0) ≡ length shares = long-at j h ∙ sym (length-map (q .rules) (shareOf i v)) in
-        rw (node, step, node-at j h, shares-at v l) (added-padded 8 (n .0) shares long ∙ ap (padded 8 noPair) (added-child (q .rules) i v (n .0)))
+        rw (node, step, node-at j h, step-at v l) (added-padded 8 (n .0) shares long ∙ ap (padded 8 noPair) (added-child (q .rules) i v (n .0)))
 
     module _ (set : ℕ) (ss : List ℕ) where
       -- the limit that the children must keep: the bounds less the reach

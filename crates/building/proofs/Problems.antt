@@ -7,9 +7,9 @@ use Prim.Native.Nat.{ℕ, min, _+_, _*_, _-_, _≤_, _<_}
 use native.Mathlib.Omega.{arith}
 use lib.Dec.{leb, eqb}
 use lib.ListN.{length, getD, take, drop, replicate, length-replicate}
-use lib.Seq.{getD-take, length-take-le, length-paste}
+use lib.Seq.{length-paste}
 use lib.IntN.{ℤ, pos}
-use Rattle.laws.specs.Z.{Within, back}
+use Rattle.laws.specs.Z.{Within}
 use Rattle.laws.specs.Lists.{flat, from, padded, parted}
 use Rattle.laws.proofs.Each.{Each, each-flat}
 use Rattle.laws.proofs.Filled.{length-padded, part-pasted}
@@ -19,7 +19,7 @@ use Rattle.meaning.specs.Diagram.{State, reaches, built, isExact}
 use Rattle.meaning.specs.Filter.{downNumbers}
 use Rattle.meaning.specs.Buffers.{arcsNeed, cellsNeed, arcBytes}
 use Rattle.problem.specs.declared.Problem.{Problem}
-use Rattle.problem.specs.Held.{faultIn, campaignOf}
+use Rattle.problem.specs.Held.{campaignOf}
 use Rattle.problem.proofs.Faultless.{right}
 use Rattle.state.specs.Pairs.{Inside, lessened, pairsAt}
 use Rattle.state.proofs.Joined.{noPair}
@@ -30,15 +30,17 @@ use Rattle.lent.specs.Vec.{slotVec, rowVec}
 use Rattle.lent.proofs.Vec.{slot-vec}
 use Rattle.lent.specs.Wide.{laid}
 use Rattle.lent.proofs.Shape.{built-shaped}
-use Rattle.lent.proofs.Whole.{halfBlock, half-long, down-behind, lower}
+use Rattle.lent.proofs.Whole.{halfBlock, half-long, lower}
 use Rattle.rows.proofs.Laid.{part-is, part-long, put, put-pastes}
-use Rattle.slot.specs.Rows.{slotLanes, CoefsRight}
+use Rattle.slot.specs.Rows.{slotLanes}
+use Rattle.slot.specs.Tables.{coefsIn, weightsIn, leastsIn, mostsIn, Tabled}
 use Rattle.slot.proofs.Said.{said-small}
 use Rattle.numbers.specs.Whole.{Ready, halfCells}
 use Rattle.numbers.proofs.Held.{held-arcs, held-formed}
-use Rattle.numbers.proofs.Passes.{Setting, Down, setting, slot-asks, row-said, slot-right, byte-place, need-is, last-place, origin, part as partOf, parted-flat, down-start, down-right, down-place, down-more, down-last, down-end, few-rules, few-slots}
+use Rattle.numbers.proofs.Passes.{Setting, Down, sets-long, setting, slots-are, slot-asks, row-said, slot-right, byte-place, need-is, last-place, origin, part as partOf, parted-flat, down-start, down-right, down-rest, down-place, down-more, down-last, down-end, few-rules, few-slots}
 use Rattle.classes.specs.Classes.{Held, Totalled, arrivalAt}
-use Rattle.reach.specs.Spans.{Reached, Says}
+use Rattle.reach.specs.Spans.{Reached}
+use Rattle.reach.proofs.Turn.{set-is as slot-set}
 use Rattle.layer.specs.Places.{builderOf}
 use Rattle.building.specs.Layers.{boundsAt, Made}
 use Rattle.building.proofs.Bounds.{boundsIn, bounds-said, bounds-inside}
@@ -49,16 +51,16 @@ abbrev allBytes : Bool → Problem → ℕ → List ℕ
 allBytes relax p w = laid 8 w (built (builderOf relax) (campaignOf p) w)
 
 -- what does not change, and what is built: the arcs and, with the cells and the row, the down numbers
-pub record Going (p : Problem) (relax : Bool) (w z : ℕ) (bounds : State) (table : List ℤ) (arcs : List ℕ) (cells here spare row : List ℤ) (nodes : ℕ) (exact : Bool) (i : ℕ) : Type 0 where
+pub record Going (p : Problem) (coefs : List ℤ) (values : List ℕ) (relax : Bool) (w z : ℕ) (bounds : State) (table : List ℤ) (arcs : List ℕ) (cells here spare row : List ℤ) (nodes : ℕ) (exact : Bool) (i : ℕ) : Type 0 where
   pub ready : Ready p w
-  pub sets : length (p .sets) ≡ 24
+  pub tabled : Tabled p coefs values
   pub need : arcsNeed (campaignOf p) w ≤ z
   pub ends : bounds ≡ padded 8 noPair (boundsIn p)
   pub reached : Reached (campaignOf p) table
   pub building : Building relax (campaignOf p) w z arcs nodes exact i
   pub down : Down (campaignOf p) w (p .n) (p .m) (allArcs relax (campaignOf p) w) cells here i
   pub room : Spare spare
-  pub slot : length row ≡ 136
+  pub slot : length row ≡ 72
 
 -- where the down numbers are reckoned: the bytes as they will stand
 pub final : {p : Problem} {w : ℕ} (relax : Bool) → Ready p w → length (p .sets) ≡ 24 → Setting (campaignOf p) w (p .n) (p .m) (allBytes relax p w) (allArcs relax (campaignOf p) w)
@@ -69,27 +71,25 @@ final {p} {w} relax r e =
     let bytes = allBytes relax p w in
     subst (λ a. Setting q w (p .n) (p .m) bytes a) (held-arcs q w (built b q w) shaped bytes refl) (setting r (held-formed q w (built b q w) shaped bytes refl) e)
 
--- a problem has its own arrays
-pub says : (p : Problem) → faultIn version1 p ≡ 0 → Says (p .n) (p .m) (p .sets) (p .kinds) (p .values) (p .slots) (p .coefs) p
-says p r = record { right = r; n-is = refl; m-is = refl; sets-are = refl; kinds-are = refl; values-are = refl; slots-are = refl; coefs-are = refl }
-
 pub zeros-long : {arcs : List ℕ} (n : ℕ) → arcs ≡ replicate n 0 → length arcs ≡ n
 zeros-long n e = ap length e ∙ length-replicate n 0
 
-pub going-start : (p : Problem) (relax : Bool) (w : ℕ) (bounds : State) (table : List ℤ) (arcs₀ arcs : List ℕ) (cells here spare row : List ℤ) → Ready p w → length (p .sets) ≡ 24 → arcsNeed (campaignOf p) w ≤ length arcs₀
-    → bounds ≡ padded 8 noPair (boundsAt (p .m) (p .lb) (p .ub)) → Reached (campaignOf p) table → arcs ≡ replicate (length arcs₀) 0
-    → length cells ≡ cellsNeed (campaignOf p) w → here ≡ rowVec (some (replicate (p .m) origin, pos 0) ∷ []) → Spare spare → length row ≡ 136
-    → Going p relax w (length arcs) bounds table arcs cells here spare row 1 true 0
+pub going-start : (p : Problem) {coefs : List ℤ} {values : List ℕ} (relax : Bool) (w : ℕ) (bounds : State) (table : List ℤ) (arcs₀ arcs : List ℕ) (cells here spare row : List ℤ)
+    → Ready p w → Tabled p coefs values → arcsNeed (campaignOf p) w ≤ length arcs₀
+    → bounds ≡ padded 8 noPair (boundsAt (p .m) (leastsIn coefs) (mostsIn coefs)) → Reached (campaignOf p) table → arcs ≡ replicate (length arcs₀) 0
+    → length cells ≡ cellsNeed (campaignOf p) w → here ≡ rowVec (some (replicate (p .m) origin, pos 0) ∷ []) → Spare spare → length row ≡ 72
+    → Going p coefs values relax w (length arcs) bounds table arcs cells here spare row 1 true 0
 going-start p relax w bounds table arcs₀ arcs cells here spare row r s need b t e l o k u =
     let long = zeros-long (length arcs₀) e in
+    let sets = sets-long s in
     record {
       ready = r;
-      sets = s;
+      tabled = s;
       need = omega arith;
-      ends = b ∙ ap (padded 8 noPair) (bounds-said p);
+      ends = b ∙ ap (padded 8 noPair) (bounds-said s);
       reached = t;
       building = building-start relax (campaignOf p) (said-small p (right version1 p (r .right))) w (length arcs) arcs (e ∙ ap (λ n. replicate n 0) (sym long));
-      down = down-start (final relax r s) (l ∙ need-is r s) o;
+      down = down-start (final relax r sets) (l ∙ need-is r sets) o;
       room = k;
       slot = u;
     }
@@ -98,19 +98,22 @@ going-start p relax w bounds table arcs₀ arcs cells here spare row r s need b 
 part-put : (arcs y : List ℕ) (at n : ℕ) → at + n ≤ length arcs → length y ≡ n → take (at + n - at) (drop at (put arcs at n y)) ≡ y
 part-put arcs y at n h e = part-is at n (put arcs at n y) ∙ ap (λ l. take n (drop at l)) (put-pastes arcs y at n e) ∙ part-pasted arcs at y n (omega arith) e
 
-module _ {p : Problem} {relax : Bool} {w z : ℕ} {bounds : State} {table : List ℤ} {arcs : List ℕ} {cells here spare row : List ℤ} {nodes : ℕ} {exact : Bool} {i : ℕ}
-    (g : Going p relax w z bounds table arcs cells here spare row nodes exact i) where
+module _ {p : Problem} {coefs : List ℤ} {values : List ℕ} {relax : Bool} {w z : ℕ} {bounds : State} {table : List ℤ} {arcs : List ℕ} {cells here spare row : List ℤ} {nodes : ℕ} {exact : Bool} {i : ℕ}
+    (g : Going p coefs values relax w z bounds table arcs cells here spare row nodes exact i) where
   abbrev size : ℕ
   size = w * (4 * p .m + 3)
 
   small : Small (campaignOf p)
   small = said-small p (right version1 p (g .ready .right))
 
+  sets : length (p .sets) ≡ 24
+  sets = sets-long (g .tabled)
+
   all : Setting (campaignOf p) w (p .n) (p .m) (allBytes relax p w) (allArcs relax (campaignOf p) w)
-  all = final relax (g .ready) (g .sets)
+  all = final relax (g .ready) sets
 
   all-slots : slots (campaignOf p) ≡ p .n
-  all-slots = length-take-le (p .n) (p .sets) (omega (arith, g .sets, few-slots (g .ready)))
+  all-slots = slots-are (g .ready) sets
 
   pub going-long : length arcs ≡ z
   going-long = ap length (g .building .bytes) ∙ length-padded 0 z _
@@ -144,7 +147,7 @@ module _ {p : Problem} {relax : Bool} {w z : ℕ} {bounds : State} {table : List
       let q = campaignOf p in
       let block : y ≡ halfBlock q w (allArcs relax q w) i = f ∙ (λ j. flat (map (downCells (sym (all .rules) j) (g .down .row j)) (from 0 w))) in
       let long : length y ≡ size = ap length block ∙ half-long q w (allArcs relax q w) i ∙ ap (λ (k : ℕ). w * (4 * k + 3)) (all .rules) in
-      ap length (put-pastes cells y (p .n * size) size long) ∙ length-paste cells (p .n * size) y size (going-last .0) (omega arith) ∙ g .down .laid .long ∙ sym (e ∙ need-is (g .ready) (g .sets))
+      ap length (put-pastes cells y (p .n * size) size long) ∙ length-paste cells (p .n * size) y size (going-last .0) (omega arith) ∙ g .down .laid .long ∙ sym (e ∙ need-is (g .ready) sets)
 
   -- after the last slot
   pub going-end : (k : ℕ) {y : List ℤ} → z ≡ k → p .n ≤ i → y ≡ flat (map (downCells (p .m) here) (from 0 w))
@@ -170,8 +173,8 @@ module _ {p : Problem} {relax : Bool} {w z : ℕ} {bounds : State} {table : List
     going-taken = omega (arith, g .reached .long, going-slot)
 
     -- what the calls ask for
-    pub going-slot-row : (p .m ≤ 8) × (i < 24) × Within 10000 (back (getD (p .weights) i (pos 0))) × CoefsRight (p .m) i (p .kinds) (p .coefs) × (length row ≡ 136)
-    going-slot-row = slot-asks (g .ready) i h row (g .slot)
+    pub going-slot-row : (i < 24) × Each (Within 1000) (coefsIn coefs) × Within 10000 (getD (weightsIn coefs) i (pos 0)) × (length coefs ≡ 232) × (length values ≡ 216) × (length row ≡ 72)
+    going-slot-row = slot-asks (g .ready) (g .tabled) i h row (g .slot)
 
     pub going-limit : Inside 10000000 bounds × Inside 10000000 (pairsAt table ((i + 1) * 17))
     going-limit = (
@@ -179,11 +182,11 @@ module _ {p : Problem} {relax : Bool} {w z : ℕ} {bounds : State} {table : List
       inside-more 200000 10000000 (omega arith) (pairsAt table ((i + 1) * 17)) (g .reached .small (i + 1) (omega (arith, below))),
     )
 
-    module _ {row′ : List ℤ} (er : row′ ≡ slotLanes (p .m) i (back (getD (p .weights) i (pos 0))) (p .kinds) (p .values) (p .slots) (p .coefs)) where
+    module _ {row′ : List ℤ} (er : row′ ≡ slotLanes (take 8 (drop (i * 8) coefs)) (take 8 (drop (i * 8) values)) (getD (weightsIn coefs) i (pos 0))) where
       row-is : row′ ≡ slotVec (campaignOf p) i
-      row-is = row-said (g .ready) i h er
+      row-is = row-said (g .ready) (g .tabled) i h er
 
-      pub row-long : length row′ ≡ 136
+      pub row-long : length row′ ≡ 72
       row-long = ap length row-is ∙ slot-vec (campaignOf p) small i .long
 
       pub going-layer : Held here row′ × Totalled here nodes × (nodes * 8 ≤ length (take (i * (w * 8) + w * 8 - i * (w * 8)) (drop (i * (w * 8)) arcs)))
@@ -193,24 +196,24 @@ module _ {p : Problem} {relax : Bool} {w z : ℕ} {bounds : State} {table : List
 
       module _ {limit : State} {part : List ℕ} {count : ℕ} {one : Bool} {k : ℕ} (ek : limit ≡ lessened bounds (pairsAt table ((i + 1) * 17)))
           (eo : one ≡ (relax || eqb (i + 1) (p .n))) (ep : k ≡ cond (eqb (i + 1) (p .n)) 1 w)
-          (made-so : Made one k (map (arrivalAt here row′ (getD (p .sets) i 0) limit) (from 0 (nodes * 8))) (take (i * (w * 8) + w * 8 - i * (w * 8)) (drop (i * (w * 8)) arcs)) part count) where
-        made : Made (relax || eqb (i + 1) (p .n)) (cond (eqb (i + 1) (p .n)) 1 w) (map (arrivalAt here row′ (getD (p .sets) i 0) limit) (from 0 (nodes * 8))) (take (i * (w * 8) + w * 8 - i * (w * 8)) (drop (i * (w * 8)) arcs)) part count
+          (made-so : Made one k (map (arrivalAt here row′ (getD values (192 + i) 0) limit) (from 0 (nodes * 8))) (take (i * (w * 8) + w * 8 - i * (w * 8)) (drop (i * (w * 8)) arcs)) part count) where
+        made : Made (relax || eqb (i + 1) (p .n)) (cond (eqb (i + 1) (p .n)) 1 w) (map (arrivalAt here row′ (getD values (192 + i) 0) limit) (from 0 (nodes * 8))) (take (i * (w * 8) + w * 8 - i * (w * 8)) (drop (i * (w * 8)) arcs)) part count
         made =
-            let xs = map (arrivalAt here row′ (getD (p .sets) i 0) limit) (from 0 (nodes * 8)) in
+            let xs = map (arrivalAt here row′ (getD values (192 + i) 0) limit) (from 0 (nodes * 8)) in
             let bytes = take (i * (w * 8) + w * 8 - i * (w * 8)) (drop (i * (w * 8)) arcs) in
             subst (λ (t : Bool). Made t (cond (eqb (i + 1) (p .n)) 1 w) xs bytes part count) eo (subst (λ (n : ℕ). Made one n xs bytes part count) ep made-so)
 
         limit-is : limit ≡ lessened (padded 8 noPair (boundsIn p)) (padded 8 noPair (reaches (campaignOf p) (i + 1) (drop (i + 1) (campaignOf p .sets))))
         limit-is = ek ∙ (λ d. lessened (g .ends d) (g .reached .is (i + 1) (omega (arith, below)) d))
 
-        set-is : getD (p .sets) i 0 ≡ getD (campaignOf p .sets) i 0
-        set-is = sym (getD-take (p .n) (p .sets) i 0 h)
+        set-is : getD values (192 + i) 0 ≡ getD (campaignOf p .sets) i 0
+        set-is = sym (slot-set p (right version1 p (g .ready .right)) (g .tabled) i h)
 
         last-is : eqb (i + 1) (p .n) ≡ eqb (i + 1) (slots (campaignOf p))
         last-is = ap (eqb (i + 1)) (sym all-slots)
 
         layer : (length part ≡ w * 8) × (parted w 8 part ≡ getD (allArcs relax (campaignOf p) w) i [])
-        layer = building-bytes (g .building) small below (g .ready .some) (g .ready .few) (g .need) here row′ (getD (p .sets) i 0) (eqb (i + 1) (p .n)) limit part count (g .down .row) row-is set-is last-is limit-is made
+        layer = building-bytes (g .building) small below (g .ready .some) (g .ready .few) (g .need) here row′ (getD values (192 + i) 0) (eqb (i + 1) (p .n)) limit part count (g .down .row) row-is set-is last-is limit-is made
 
         abbrev arcs′ : List ℕ
         arcs′ = put arcs (i * (w * 8)) (w * 8) part
@@ -233,7 +236,7 @@ module _ {p : Problem} {relax : Bool} {w z : ℕ} {bounds : State} {table : List
               g .ready .few,
               slot-right all i row-is,
               going-here,
-              rw (g .down .row) (down-behind q small w a (all .whole) (g .ready .some) i (omega arith)),
+              down-rest all (g .down),
               ap length part-there ∙ layer .0,
               rw part-there low,
               g .room,
@@ -242,19 +245,19 @@ module _ {p : Problem} {relax : Bool} {w z : ℕ} {bounds : State} {table : List
         pub going-more : {cells′ here′ spare′ : List ℤ} {y : List ℤ} (n′ : ℕ) (e′ : Bool) → y ≡ flat (map (downCells (p .m) here) (from 0 w)) → cells′ ≡ put cells (i * size) size y
             → here′ ≡ bringLayer row′ here 0 (parted w 8 (take (i * (w * 8) + w * 8 - i * (w * 8)) (drop (i * (w * 8)) arcs′))) (replicate 272 (pos 4000000)) → Spare spare′
             → n′ ≡ min count w → e′ ≡ (exact && (eqb (i + 1) (p .n) || leb count w))
-            → Going p relax w z bounds table arcs′ cells′ here′ spare′ row′ n′ e′ (i + 1)
+            → Going p coefs values relax w z bounds table arcs′ cells′ here′ spare′ row′ n′ e′ (i + 1)
         going-more {cells′} {here′} {spare′} {y} n′ e′ ey ec eh sp en ee =
             let same : parted w 8 (take (i * (w * 8) + w * 8 - i * (w * 8)) (drop (i * (w * 8)) arcs′)) ≡ parted w 8 (partOf (allBytes relax p w) i (w * 8)) =
             ap (parted w 8) part-there ∙ layer .1 ∙ all .layer i h ∙ sym (ap (parted w 8) (part-is (i * (w * 8)) (w * 8) (allBytes relax p w))) in
             record {
               ready = g .ready;
-              sets = g .sets;
+              tabled = g .tabled;
               need = g .need;
               ends = g .ends;
               reached = g .reached;
               building =
-                  building-more (g .building) small below (g .ready .some) (g .ready .few) (g .need) here row′ (getD (p .sets) i 0) (eqb (i + 1) (p .n)) limit part count (g .down .row) row-is set-is last-is limit-is made n′ e′ en ee;
+                  building-more (g .building) small below (g .ready .some) (g .ready .few) (g .need) here row′ (getD values (192 + i) 0) (eqb (i + 1) (p .n)) limit part count (g .down .row) row-is set-is last-is limit-is made n′ e′ en ee;
               down = subst (λ (c : List ℤ). Down (campaignOf p) w (p .n) (p .m) (allArcs relax (campaignOf p) w) c here′ (i + 1)) (sym ec) (down-more all (g .down) h ey row-is (eh ∙ ap (λ (l : List (List ℕ)). bringLayer row′ here 0 l (replicate 272 (pos 4000000))) same));
               room = sp;
-              slot = ap length row-is ∙ slot-vec (campaignOf p) small i .long;
+              slot = row-long;
             }

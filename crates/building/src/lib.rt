@@ -14,26 +14,31 @@ ghost use Rattle.meaning.specs.Buffers.{arcsNeed, cellsNeed, arcBytes};
 ghost use Rattle.problem.specs.Held.{faultIn, campaignOf};
 ghost use Rattle.state.specs.Pairs.{pairs};
 ghost use Rattle.lent.specs.Wide.{wide};
-ghost use Rattle.numbers.specs.Whole.{Bounding, held, halfCells};
+ghost use Rattle.numbers.specs.Whole.{Bounding, halfCells};
+ghost use Rattle.slot.specs.Tables.{leastsIn, mostsIn, Tabled};
 ghost use Rattle.classes.specs.Classes.{Held, Totalled, arrivalAt};
 ghost use Rattle.layer.specs.Places.{builderOf};
 ghost use Rattle.building.specs.Layers.{boundsAt, Made};
 use lanes::FAR;
 use lanes::LANES;
+use problem::Problem;
+use slot::LEASTS;
+use slot::MOSTS;
+use slot::SETS;
 use state::Pair;
 use state::State;
 
 // The bounds of the rules as a state: no low above ub, no high below lb.
-fn bounds_of<'a>(m: usize, lbs: &'a [i32; 8], ubs: &'a [i32; 8]) -> State
-    requires { ⌜ Bounding m (now lbs) (now ubs) ⌝ }
-    ensures { λ r. ⌜ pairs r ≡ padded 8 (pos 0, pos 0) (boundsAt m (now (lbs .entry)) (now (ubs .entry))) ⌝ }
+fn bounds_of<'a>(m: usize, coefs: &'a [i32; 232]) -> State
+    requires { ⌜ Bounding m (leastsIn (now coefs)) (mostsIn (now coefs)) × (length (now coefs) ≡ 232) ⌝ }
+    ensures { λ r. ⌜ pairs r ≡ padded 8 (pos 0, pos 0) (boundsAt m (leastsIn (now (coefs .entry))) (mostsIn (now (coefs .entry)))) ⌝ }
 {
     let zero = Pair { lo: 0, hi: 0 };
     let mut s = State { at: [zero; 8] };
     let mut r: usize = 0;
     while r < m {
-        let lb = lbs[r];
-        let ub = ubs[r];
+        let lb = coefs[LEASTS + r];
+        let ub = coefs[MOSTS + r];
         s.at[r] = Pair { lo: ub, hi: -lb };
         r += 1;
     }
@@ -101,57 +106,39 @@ fn build_layer(
     count
 }
 
-// All layers of the problem that has these fields: the arcs, zeros past their need, and the down numbers of their nodes in the cells; says whether the diagram is exact.
+// All layers: the arcs, zeros past their need, and the down numbers of their nodes in the cells; says whether the diagram is exact.
 pub fn build<'a>(
-    n: usize,
-    m: usize,
-    sets: &'a [u16; 24],
-    weights: &'a [i32; 24],
-    kinds: &'a [u8; 8],
-    values: &'a [u16; 8],
-    slots: &'a [u32; 8],
-    coefs: &'a [i32; 192],
-    lb: &'a [i32; 8],
-    ub: &'a [i32; 8],
+    p: Problem,
+    coefs: &'a [i32; 232],
+    values: &'a [u16; 216],
     relax: bool,
     w: usize,
     arcs: &mut [u8],
     cells: &mut [i32],
 ) -> bool
-    requires { let p = held n m (now sets) (now weights) (now kinds) (now values) (now slots) (now coefs) (now lb) (now ub) in ⌜ (faultIn version1 p ≡ 0) × (1 ≤ w) × (w ≤ 16) × (arcsNeed (campaignOf p) w ≤ length (now arcs)) × (length (now cells) ≡ cellsNeed (campaignOf p) w) × (length (now sets) ≡ 24) ⌝ }
-    ensures arcs { λ r. let p = held n m (now (sets .entry)) (now (weights .entry)) (now (kinds .entry)) (now (values .entry)) (now (slots .entry)) (now (coefs .entry)) (now (lb .entry)) (now (ub .entry)) in ⌜ now (arcs .exit) ≡ arcBytes (campaignOf p) w (length (now (arcs .entry))) (built (builderOf relax) (campaignOf p) w) ⌝ }
-    ensures cells { λ r. let p = held n m (now (sets .entry)) (now (weights .entry)) (now (kinds .entry)) (now (values .entry)) (now (slots .entry)) (now (coefs .entry)) (now (lb .entry)) (now (ub .entry)) in ⌜ now (cells .exit) ≡ halfCells (campaignOf p) w (downNumbers (campaignOf p) (wide 8 w (built (builderOf relax) (campaignOf p) w))) ⌝ }
-    ensures exact { λ r. let p = held n m (now (sets .entry)) (now (weights .entry)) (now (kinds .entry)) (now (values .entry)) (now (slots .entry)) (now (coefs .entry)) (now (lb .entry)) (now (ub .entry)) in ⌜ r ≡ isExact (builderOf relax) (campaignOf p) w ⌝ }
+    requires { ⌜ (faultIn version1 p ≡ 0) × (1 ≤ w) × (w ≤ 16) × (arcsNeed (campaignOf p) w ≤ length (now arcs)) × (length (now cells) ≡ cellsNeed (campaignOf p) w) × Tabled p (now coefs) (now values) ⌝ }
+    ensures arcs { λ r. ⌜ now (arcs .exit) ≡ arcBytes (campaignOf p) w (length (now (arcs .entry))) (built (builderOf relax) (campaignOf p) w) ⌝ }
+    ensures cells { λ r. ⌜ now (cells .exit) ≡ halfCells (campaignOf p) w (downNumbers (campaignOf p) (wide 8 w (built (builderOf relax) (campaignOf p) w))) ⌝ }
+    ensures exact { λ r. ⌜ r ≡ isExact (builderOf relax) (campaignOf p) w ⌝ }
 {
     let bytes = w * 8;
-    let size = w * (4 * m + 3);
-    let bounds = bounds_of(m, lb, ub);
+    let size = w * (4 * p.m + 3);
+    let bounds = bounds_of(p.m, coefs);
     let mut table = [0i32; 425];
-    let mut row = [0i32; 136];
-    reach::reaches(
-        n,
-        m,
-        sets,
-        kinds,
-        values,
-        slots,
-        coefs,
-        &mut row,
-        &mut table,
-    );
+    let mut row = [0i32; 72];
+    reach::reaches(p, coefs, values, &mut table);
     zero_bytes(arcs);
-    let mut here = numbers::one_node(m);
+    let mut here = numbers::one_node(p.m);
     let mut spare = [FAR; 272];
     let mut nodes: usize = 1;
     let mut exact = true;
     let mut i: usize = 0;
-    while i < n {
-        rows::put_downs(m, w, &here, &mut cells[i * size..i * size + size]);
-        let set = sets[i];
-        let weight = weights[i];
-        slot::slot_row(m, i, weight, kinds, values, slots, coefs, &mut row);
+    while i < p.n {
+        rows::put_downs(p.m, w, &here, &mut cells[i * size..i * size + size]);
+        let set = values[SETS + i];
+        slot::slot_row(coefs, values, i, &mut row);
         let limit = state::less(bounds, state::taken(&table, (i + 1) * LANES));
-        let last = i + 1 == n;
+        let last = i + 1 == p.n;
         let count = build_layer(
             shares(relax, last),
             places(last, w),
@@ -173,6 +160,6 @@ pub fn build<'a>(
         exact = still(exact, last, count, w);
         i += 1;
     }
-    rows::put_downs(m, w, &here, &mut cells[n * size..n * size + size]);
+    rows::put_downs(p.m, w, &here, &mut cells[p.n * size..p.n * size + size]);
     exact
 }

@@ -12,31 +12,32 @@ use mir.Syntax.{w32}
 use mir.Val.{SFits}
 use mir.Facts.{toZ-ofZ}
 use Rattle.laws.specs.Z.{Within, widen, sum-within, fits32, back, back-is}
-use Rattle.state.specs.Pairs.{Inside, pairsAt, keyOf, bucketIn, bucketOf}
+use Rattle.state.specs.Pairs.{Inside, pairsAt, sharesAt, keyOf, bucketIn, bucketOf}
 use Rattle.state.proofs.Sizes.{inside-more}
 use Rattle.state.proofs.Rows.{pairs-length, inside-row}
+use Rattle.state.proofs.Steps.{shares-length}
 use Rattle.state.proofs.Keys.{key-within, key-added}
 use Rattle.classes.specs.Classes.{Held, Totalled, Keyed, stateAt}
 
 module _ {here row : List ℤ} (held : Held here row) where
-  -- node j, and step v
+  -- node j, and all steps
   pub node-room : (j : ℕ) → j < 16 → j * 17 + 16 ≤ length here
   node-room j h = omega (arith, held .nodes)
 
-  pub step-room : (v : ℕ) → v < 8 → v * 17 + 16 ≤ length row
-  step-room v h = omega (arith, held .slot)
+  pub steps-room : 64 ≤ length row
+  steps-room = omega (arith, held .slot)
 
   -- within the size that `state::child` asks for
   pub node-fits : (j : ℕ) → Inside 10000000 (pairsAt here (j * 17))
   node-fits j = inside-more 4000000 10000000 (omega arith) (pairsAt here (j * 17)) (inside-row 4000000 here (j * 17) (held .wide))
 
-  pub step-fits : (v : ℕ) → v < 8 → Inside 10000000 (pairsAt row (v * 17))
-  step-fits v h = inside-more 10000 10000000 (omega arith) (pairsAt row (v * 17)) (held .shares v h)
+  pub step-fits : (v : ℕ) → v < 8 → Inside 10000000 (sharesAt row v)
+  step-fits v h = inside-more 10000 10000000 (omega arith) (sharesAt row v) (held .shares v h)
 
   -- ---- keys
   -- within the size that `state::key` asks for
-  pub step-small : (v : ℕ) → v < 8 → Inside 200000 (pairsAt row (v * 17))
-  step-small v h = inside-more 10000 200000 (omega arith) (pairsAt row (v * 17)) (held .shares v h)
+  pub step-small : (v : ℕ) → v < 8 → Inside 200000 (sharesAt row v)
+  step-small v h = inside-more 10000 200000 (omega arith) (sharesAt row v) (held .shares v h)
 
 pub node-small : {here : List ℤ} {nodes : ℕ} → Totalled here nodes → (j : ℕ) → j < nodes → Inside 200000 (pairsAt here (j * 17))
 node-small {here} small j h = inside-more 190000 200000 (omega arith) (pairsAt here (j * 17)) (small .totals j h)
@@ -45,7 +46,7 @@ node-small {here} small j h = inside-more 190000 200000 (omega arith) (pairsAt h
 pub record KeysTo (here row : List ℤ) (nodes steps : ℕ) (keys : List ℤ) : Type 0 where
   pub long : length keys ≡ 24
   pub node : (j : ℕ) → j < nodes → getD keys j (pos 0) ≡ keyOf (pairsAt here (j * 17))
-  pub step : (v : ℕ) → v < steps → getD keys (16 + v) (pos 0) ≡ keyOf (pairsAt row (v * 17))
+  pub step : (v : ℕ) → v < steps → getD keys (16 + v) (pos 0) ≡ keyOf (sharesAt row v)
 
 module _ {here row : List ℤ} {keys : List ℤ} where
   -- one node more
@@ -60,7 +61,7 @@ module _ {here row : List ℤ} {keys : List ℤ} where
   }
 
   -- one step more
-  pub keys-step : {nodes v : ℕ} → nodes ≤ 16 → v < 8 → KeysTo here row nodes v keys → (z : ℤ) → z ≡ keyOf (pairsAt row (v * 17)) → KeysTo here row nodes (v + 1) (set keys (16 + v) z)
+  pub keys-step : {nodes v : ℕ} → nodes ≤ 16 → v < 8 → KeysTo here row nodes v keys → (z : ℤ) → z ≡ keyOf (sharesAt row v) → KeysTo here row nodes (v + 1) (set keys (16 + v) z)
   keys-step {nodes} {v} f b k z e = record {
     long = length-set keys (16 + v) z ∙ k .long;
     node = λ j h. getD-set-other keys (16 + v) j z (pos 0) (λ q. absurd (omega arith)) ∙ k .node j h;
@@ -78,7 +79,7 @@ module _ {here row : List ℤ} {keys : List ℤ} where
     node = k .node;
     step = k .step;
     nodeSmall = λ j h. rw (k .node j h) (widen tt (key-within 190000 (pairsAt here (j * 17)) (small .totals j h)));
-    stepSmall = λ v h. rw (k .step v h) (widen tt (key-within 10000 (pairsAt row (v * 17)) (held .shares v h)));
+    stepSmall = λ v h. rw (k .step v h) (widen tt (key-within 10000 (sharesAt row v) (held .shares v h)));
   }
 
 -- ---- the bucket of child f
@@ -113,7 +114,7 @@ module _ {here row keys : List ℤ} {nodes : ℕ} (keyed : Keyed here row nodes 
   pub child-bucket : Held here row → bucketIn (back (back (getD keys (f / 8) (pos 0)) +ℤ back (getD keys (16 + f % 8) (pos 0)))) ≡ bucketOf (stateAt here row f)
   child-bucket held =
       let node = pairsAt here (f / 8 * 17) in
-      let step = pairsAt row (f % 8 * 17) in
+      let step = sharesAt row (f % 8) in
       let long = pairs-length here (f / 8 * 17) (node-room held (f / 8) (omega (arith, node-below, keyed .few))) in
-      let wide = pairs-length row (f % 8 * 17) (step-room held (f % 8) step-below) in
+      let wide = shares-length row (f % 8) step-below (steps-room held) in
       ap bucketIn keys-back ∙ rw (keyed .node (f / 8) node-below, keyed .step (f % 8) step-below) (ap bucketIn (sym (key-added node step (long ∙ sym wide))))

@@ -13,16 +13,16 @@ use Rattle.laws.proofs.Each.{Each}
 use Rattle.meaning.specs.Plan.{allows}
 use Rattle.meaning.specs.Problem.{stepCount}
 use Rattle.meaning.specs.Diagram.{State, eqState, Node, has, distinct}
-use Rattle.state.specs.Pairs.{Inside, added, fitsIn, pairsAt, keyOf, bucketOf}
+use Rattle.state.specs.Pairs.{Inside, added, fitsIn, pairsAt, sharesAt, keyOf, bucketOf}
 use Rattle.lent.proofs.FirstOrder.{AllDiffer}
 
 -- ---- children
--- a layer's row has 17 lanes for each of 16 nodes, a slot's row 17 for each of 8 steps; shares within 10,000
+-- a layer's row has 17 lanes for each of 16 nodes, a slot's row 8 shares for each of 8 steps and their prices; shares within 10,000
 pub record Held (here row : List ℤ) : Type 0 where
   pub nodes : length here ≡ 272
-  pub slot : length row ≡ 136
+  pub slot : length row ≡ 72
   pub wide : Each (Within 4000000) here
-  pub shares : (v : ℕ) → v < 8 → Inside 10000 (pairsAt row (v * 17))
+  pub shares : (v : ℕ) → v < 8 → Inside 10000 (sharesAt row v)
 
 -- the first nodes have totals within 190,000; behind them stand nodes without numbers
 pub record Totalled (here : List ℤ) (nodes : ℕ) : Type 0 where
@@ -31,7 +31,7 @@ pub record Totalled (here : List ℤ) (nodes : ℕ) : Type 0 where
 
 -- the state of child f: step f % 8 of node f / 8
 abbrev pub stateAt : List ℤ → List ℤ → ℕ → State
-stateAt here row f = added (pairsAt here (f / 8 * 17)) (pairsAt row (f % 8 * 17))
+stateAt here row f = added (pairsAt here (f / 8 * 17)) (sharesAt row (f % 8))
 
 -- child f, where the arc exists
 abbrev pub arrivalAt : List ℤ → List ℤ → ℕ → State → ℕ → Option Node
@@ -44,7 +44,7 @@ pub record Keyed (here row : List ℤ) (nodes : ℕ) (keys : List ℤ) : Type 0 
   pub few : nodes ≤ 16
   pub long : length keys ≡ 24
   pub node : (j : ℕ) → j < nodes → getD keys j (pos 0) ≡ keyOf (pairsAt here (j * 17))
-  pub step : (v : ℕ) → v < 8 → getD keys (16 + v) (pos 0) ≡ keyOf (pairsAt row (v * 17))
+  pub step : (v : ℕ) → v < 8 → getD keys (16 + v) (pos 0) ≡ keyOf (sharesAt row v)
   pub nodeSmall : (j : ℕ) → j < nodes → Within 720000000 (getD keys j (pos 0))
   pub stepSmall : (v : ℕ) → v < 8 → Within 40000000 (getD keys (16 + v) (pos 0))
 

@@ -9,7 +9,7 @@ ghost use Rattle.state.specs.Pairs.{pairs, bucketOf};
 ghost use Rattle.classes.specs.Classes.{Held, Totalled, Keyed, stateAt, arrivalAt, classesIn, classByte, Chained, Seen, Fresh, Found, Arrived, Classed};
 use state::State;
 
-// Where the next node or step begins in a row: eight lows, eight turned highs, a cost.
+// Where the next node begins in a layer's row: eight lows, eight turned highs, a cost.
 const LANES: usize = 17;
 
 // The state of child f of a layer's nodes: step f % 8 of node f / 8.
@@ -17,7 +17,7 @@ fn child_state(here: &[i32], row: &[i32], f: usize) -> State
     requires { ⌜ Held (now here) (now row) × (f < 128) ⌝ }
     ensures { λ r. ⌜ pairs r ≡ stateAt (now (here .entry)) (now (row .entry)) f ⌝ }
 {
-    state::child(state::taken(here, f / 8 * LANES), row, f % 8 * LANES)
+    state::child(state::taken(here, f / 8 * LANES), row, f % 8)
 }
 
 // The keys of a layer's nodes, and behind them those of the steps' shares.
@@ -33,7 +33,7 @@ fn keys_of(nodes: usize, here: &[i32], row: &[i32]) -> [i32; 24]
     }
     let mut v: usize = 0;
     while v < 8 {
-        keys[16 + v] = state::key(state::taken(row, v * LANES));
+        keys[16 + v] = state::key(state::shares(row, v));
         v += 1;
     }
     keys

@@ -1,17 +1,14 @@
 -- What do a round and the closing sweep leave in the buffers, and what stands there when a round drops nothing?
 use mathlib.Core.Path.{_≡_, refl, sym, _∙_, ap}
 use mathlib.Core.List.{List}
-use mathlib.Core.Bool.{false, not}
-use Prim.Native.Nat.{ℕ, zero, suc, _+_, _-_, _≤_, _<_}
+use Prim.Native.Nat.{ℕ, zero, suc, _+_, _*_, _-_, _≤_, _<_}
 use native.Mathlib.Omega.{arith}
 use native.Mathlib.Numerals.{add-one}
-use borrow.Author.Tests.{not-false}
-use lib.ListN.{length}
+use lib.ListN.{length, take}
 use lib.IntN.{ℤ, pos}
-use Rattle.laws.specs.Lists.{same, padded}
-use Rattle.laws.proofs.Parts.{same-true}
+use Rattle.laws.specs.Lists.{padded}
 use Rattle.laws.proofs.Filled.{padded-full}
-use Rattle.meaning.specs.Plan.{Campaign}
+use Rattle.meaning.specs.Plan.{Campaign, slots}
 use Rattle.meaning.specs.Diagram.{relaxed, Arcs, built}
 use Rattle.meaning.specs.Filter.{downNumbers, upNumbers, Test, onPath, within, drops, rounds, swept, relaxedArcs}
 use Rattle.meaning.specs.Buffers.{arcsIn, nodeNeed, allCells, cellsNeed, numberCells}
@@ -22,7 +19,7 @@ use Rattle.lent.specs.Wide.{wide, laid}
 use Rattle.lent.proofs.Wide.{wide-drops, wide-cells}
 use Rattle.lent.proofs.Swept.{swept-cells, same-sweep, laid-same}
 use Rattle.lent.proofs.Shape.{Shaped, built-shaped, drops-shaped, rounds-shaped}
-use Rattle.numbers.specs.Whole.{Ready, Formed, halfCells}
+use Rattle.numbers.specs.Whole.{Ready, Formed, halfCells, Standing}
 use Rattle.numbers.proofs.Passes.{setting, need-is, half-count}
 use Rattle.numbers.proofs.Held.{held-arcs}
 
@@ -52,6 +49,10 @@ pub half-need : {p : Problem} {w : ℕ} {b : List ℕ} {x : List ℤ} → Ready 
     → x ≡ halfCells (campaignOf p) w (downNumbers (campaignOf p) (arcsIn (campaignOf p) w b)) → length x ≡ cellsNeed (campaignOf p) w
 half-need r e f h = half-count (setting r f e) h ∙ sym (need-is r e)
 
+-- and those of the first layers stand there
+pub standing-whole : {q : Campaign} {w k : ℕ} {b : List ℕ} {x : List ℤ} → k ≤ slots q → x ≡ halfCells q w (downNumbers q (arcsIn q w b)) → Standing q w k b x
+standing-whole {q} {w} {k} h e = record { most = h; are = λ l. ap (take (suc k * (w * nodeNeed q))) e }
+
 -- ---- the rounds
 round-behind : (c : ℤ) (q : Campaign) (k : ℕ) (a : Arcs) → rounds c q (suc k) a ≡ drops (within c) q (rounds c q k a)
 round-behind c q zero a = refl
@@ -74,11 +75,11 @@ module _ (c : ℤ) (q : Campaign) (w : ℕ) (some : 1 ≤ w) (k : ℕ) where
     round-next = rw (add-one k, round-behind c q k (built relaxed q w)) (held-drops q w behind behind-shaped b is (within c) left)
 
     -- one that dropped nothing: the fixed point
-    module _ (n : ℕ) (more : k < n) (none : false ≡ not (same b b′)) where
+    module _ (n : ℕ) (more : k < n) (none : b′ ≡ b) where
       fixed-point : drops (within c) q behind ≡ behind
       fixed-point =
           laid-same (within c) q (q .steps) w behind (behind-shaped .one) (behind-shaped .sized)
-          (sym (held-drops q w behind behind-shaped b is (within c) left) ∙ sym (same-true b b′ (not-false (same b b′) (sym none))) ∙ is)
+          (sym (held-drops q w behind behind-shaped b is (within c) left) ∙ none ∙ is)
 
       all-rounds : relaxedArcs q w n c ≡ behind
       all-rounds =

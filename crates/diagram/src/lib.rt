@@ -14,10 +14,12 @@ ghost use Rattle.meaning.specs.Calls.{wrongWidth, wrongNumbers, relaxedOf, rest
 ghost use Rattle.problem.specs.Held.{faultIn, campaignOf};
 ghost use Rattle.lent.specs.Wide.{wide, laid};
 ghost use Rattle.lent.specs.Led.{led};
-ghost use Rattle.numbers.specs.Whole.{Ready, held, halfCells};
+ghost use Rattle.numbers.specs.Whole.{Ready, halfCells};
+ghost use Rattle.slot.specs.Tables.{weightsIn, Tabled};
 ghost use Rattle.diagram.specs.Answers.{boundedAs, lentOf};
 ghost use Rattle.diagram.specs.Leading.{Led, firstCell, Leads};
 use problem::Problem;
+use slot::WEIGHTS;
 
 // A refusal's number or 0; is there a bound, the bound; exact or open.
 pub struct Bound {
@@ -83,67 +85,30 @@ pub fn cells_need(n: usize, m: usize, w: usize) -> usize
 
 // The asked number of rounds and the closing sweep. Behind a round that drops nothing neither would change anything.
 fn filter<'a>(
-    n: usize,
-    m: usize,
-    sets: &'a [u16; 24],
-    weights: &'a [i32; 24],
-    kinds: &'a [u8; 8],
-    values: &'a [u16; 8],
-    slots: &'a [u32; 8],
-    coefs: &'a [i32; 192],
-    lb: &'a [i32; 8],
-    ub: &'a [i32; 8],
+    p: Problem,
+    coefs: &'a [i32; 232],
+    values: &'a [u16; 216],
     w: usize,
     rounds: u32,
     ceiling: i32,
     arcs: &mut [u8],
     cells: &mut [i32],
 )
-    requires { let p = held n m (now sets) (now weights) (now kinds) (now values) (now slots) (now coefs) (now lb) (now ub) in ⌜ Ready p w × Within 2000000 ceiling × (now arcs ≡ laid 8 w (built relaxed (campaignOf p) w)) × (now cells ≡ halfCells (campaignOf p) w (downNumbers (campaignOf p) (wide 8 w (built relaxed (campaignOf p) w)))) × (length (now sets) ≡ 24) ⌝ }
-    ensures arcs { λ r. let p = held n m (now (sets .entry)) (now (weights .entry)) (now (kinds .entry)) (now (values .entry)) (now (slots .entry)) (now (coefs .entry)) (now (lb .entry)) (now (ub .entry)) in ⌜ now (arcs .exit) ≡ laid 8 w (relaxedArcs (campaignOf p) w rounds ceiling) ⌝ }
-    ensures cells { λ r. let p = held n m (now (sets .entry)) (now (weights .entry)) (now (kinds .entry)) (now (values .entry)) (now (slots .entry)) (now (coefs .entry)) (now (lb .entry)) (now (ub .entry)) in ⌜ now (cells .exit) ≡ numberCells (campaignOf p) w (cellsNeed (campaignOf p) w) (relaxedArcs (campaignOf p) w rounds ceiling) ⌝ }
+    requires { ⌜ Ready p w × Within 2000000 ceiling × (now arcs ≡ laid 8 w (built relaxed (campaignOf p) w)) × (now cells ≡ halfCells (campaignOf p) w (downNumbers (campaignOf p) (wide 8 w (built relaxed (campaignOf p) w)))) × Tabled p (now coefs) (now values) ⌝ }
+    ensures arcs { λ r. ⌜ now (arcs .exit) ≡ laid 8 w (relaxedArcs (campaignOf p) w rounds ceiling) ⌝ }
+    ensures cells { λ r. ⌜ now (cells .exit) ≡ numberCells (campaignOf p) w (cellsNeed (campaignOf p) w) (relaxedArcs (campaignOf p) w rounds ceiling) ⌝ }
 {
+    let n = p.n;
+    let mut from = n;
     let mut k: u32 = 0;
     while k < rounds {
-        let known = k == 0;
-        if !numbers::round(
-            n,
-            m,
-            sets,
-            weights,
-            kinds,
-            values,
-            slots,
-            coefs,
-            lb,
-            ub,
-            w,
-            known,
-            ceiling,
-            arcs,
-            cells,
-        ) {
+        from = numbers::round(p, coefs, values, w, from, ceiling, arcs, cells);
+        if from == n {
             return;
         }
         k += 1;
     }
-    let known = k == 0;
-    numbers::sweep(
-        n,
-        m,
-        sets,
-        weights,
-        kinds,
-        values,
-        slots,
-        coefs,
-        lb,
-        ub,
-        w,
-        known,
-        arcs,
-        cells,
-    );
+    numbers::sweep(p, coefs, values, w, from, arcs, cells);
 }
 
 // The bound that stands in the cells: the sink's cost down, none if the source is absent.
@@ -162,16 +127,18 @@ fn bound_of(n: usize, m: usize, w: usize, cells: &[i32], exact: bool) -> Bound
     }
 }
 
-// The relaxed diagram of a problem without fault: refusals 8, 11, 9.
-pub fn relaxed(
+// The relaxed diagram by the tables of a problem without fault: refusals 8, 11, 9.
+pub fn relaxed_by<'a>(
     p: Problem,
+    coefs: &'a [i32; 232],
+    values: &'a [u16; 216],
     width: u32,
     rounds: u32,
     ceiling: i32,
     arcs: &mut [u8],
     cells: &mut [i32],
 ) -> Bound
-    requires { ⌜ faultIn version1 p ≡ 0 ⌝ }
+    requires { ⌜ (faultIn version1 p ≡ 0) × Tabled p (now coefs) (now values) ⌝ }
     ensures { λ r. ⌜ r ≡ boundedAs (relaxedOf (campaignOf p) width rounds ceiling (lentOf (now (arcs .entry)) (now (cells .entry)) []) .answer) ⌝ }
     ensures arcs { λ r. ⌜ now (arcs .exit) ≡ relaxedOf (campaignOf p) width rounds ceiling (lentOf (now (arcs .entry)) (now (cells .entry)) []) .lent .arcs ⌝ }
     ensures cells { λ r. ⌜ now (cells .exit) ≡ relaxedOf (campaignOf p) width rounds ceiling (lentOf (now (arcs .entry)) (now (cells .entry)) []) .lent .cells ⌝ }
@@ -194,34 +161,12 @@ pub fn relaxed(
     if nine != 0 {
         return refusal(nine);
     }
-    let exact = building::build(
-        n,
-        m,
-        &p.sets,
-        &p.weights,
-        &p.kinds,
-        &p.values,
-        &p.slots,
-        &p.coefs,
-        &p.lb,
-        &p.ub,
-        true,
-        w,
-        arcs,
-        &mut cells[..numbers],
-    );
+    let exact = building::build(p, coefs, values, true, w, arcs, &mut cells[..numbers]);
     rows::zero_cells(&mut cells[numbers..]);
     filter(
-        n,
-        m,
-        &p.sets,
-        &p.weights,
-        &p.kinds,
-        &p.values,
-        &p.slots,
-        &p.coefs,
-        &p.lb,
-        &p.ub,
+        p,
+        coefs,
+        values,
         w,
         rounds,
         ceiling,
@@ -229,6 +174,26 @@ pub fn relaxed(
         &mut cells[..numbers],
     );
     bound_of(n, m, w, cells, exact)
+}
+
+// The relaxed diagram of a problem without fault: refusals 8, 11, 9.
+pub fn relaxed(
+    p: Problem,
+    width: u32,
+    rounds: u32,
+    ceiling: i32,
+    arcs: &mut [u8],
+    cells: &mut [i32],
+) -> Bound
+    requires { ⌜ faultIn version1 p ≡ 0 ⌝ }
+    ensures { λ r. ⌜ r ≡ boundedAs (relaxedOf (campaignOf p) width rounds ceiling (lentOf (now (arcs .entry)) (now (cells .entry)) []) .answer) ⌝ }
+    ensures arcs { λ r. ⌜ now (arcs .exit) ≡ relaxedOf (campaignOf p) width rounds ceiling (lentOf (now (arcs .entry)) (now (cells .entry)) []) .lent .arcs ⌝ }
+    ensures cells { λ r. ⌜ now (cells .exit) ≡ relaxedOf (campaignOf p) width rounds ceiling (lentOf (now (arcs .entry)) (now (cells .entry)) []) .lent .cells ⌝ }
+{
+    let mut coefs = [0i32; 232];
+    let mut values = [0u16; 216];
+    slot::put_parts(p, &mut coefs, &mut values);
+    relaxed_by(p, &coefs, &values, width, rounds, ceiling, arcs, cells)
 }
 
 // The first step of a node along which its cost up is reached: its arcs, and the cells of the next layer.
@@ -251,19 +216,25 @@ fn first_step(weight: i32, m: usize, arcs: &[u8], cells: &[i32], cost: i32) -> u
 }
 
 // The cheapest path, of equal ones the first in dictionary order, along the costs up.
-fn lead(p: Problem, w: usize, arcs: &[u8], cells: &[i32], plan: &mut [u8])
-    requires { ⌜ Leads p w (now arcs) (now cells) × (p .n ≤ length (now plan)) ⌝ }
+fn lead<'a>(
+    p: Problem,
+    coefs: &'a [i32; 232],
+    w: usize,
+    arcs: &[u8],
+    cells: &[i32],
+    plan: &mut [u8],
+)
+    requires { ⌜ Leads p w (now arcs) (now cells) × (weightsIn (now coefs) ≡ p .weights) × (length (now coefs) ≡ 232) × (p .n ≤ length (now plan)) ⌝ }
     ensures { λ r. ⌜ now (plan .exit) ≡ led (campaignOf p) 0 (restrictedArcs (campaignOf p) w) 0 ++ drop (p .n) (now (plan .entry)) ⌝ }
 {
-    let n = p.n;
     let m = p.m;
     let size = w * (4 * m + 3);
     let mut j: usize = 0;
     let mut i: usize = 0;
-    while i < n {
+    while i < p.n {
         let at = (i * w + j) * 8;
         let cost = cells[(i * w + j) * (4 * m + 3) + 4 * m + 2];
-        let weight = p.weights[i];
+        let weight = coefs[WEIGHTS + i];
         let v = first_step(
             weight,
             m,
@@ -312,42 +283,23 @@ pub fn restricted(
     if nine != 0 {
         return refusal(nine);
     }
-    let exact = building::build(
-        n,
-        m,
-        &p.sets,
-        &p.weights,
-        &p.kinds,
-        &p.values,
-        &p.slots,
-        &p.coefs,
-        &p.lb,
-        &p.ub,
-        false,
-        w,
-        arcs,
-        &mut cells[..numbers],
-    );
+    let mut coefs = [0i32; 232];
+    let mut values = [0u16; 216];
+    slot::put_parts(p, &mut coefs, &mut values);
+    let exact = building::build(p, &coefs, &values, false, w, arcs, &mut cells[..numbers]);
     rows::zero_cells(&mut cells[numbers..]);
     numbers::sweep(
-        n,
-        m,
-        &p.sets,
-        &p.weights,
-        &p.kinds,
-        &p.values,
-        &p.slots,
-        &p.coefs,
-        &p.lb,
-        &p.ub,
+        p,
+        &coefs,
+        &values,
         w,
-        true,
+        n,
         &mut arcs[..bytes],
         &mut cells[..numbers],
     );
     building::zero_bytes(plan);
     if cells[0] != 0 {
-        lead(p, w, &arcs[..bytes], &cells[..numbers], plan);
+        lead(p, &coefs, w, &arcs[..bytes], &cells[..numbers], plan);
     }
     bound_of(n, m, w, cells, exact)
 }

@@ -1,20 +1,22 @@
 -- How long are lanes, how great, and what has a loop over the 17 places done at each turn?
 use mathlib.Core.Path.{_≡_, refl, sym, ap, _∙_}
-use mathlib.Core.List.{List, [], _∷_}
+use mathlib.Core.List.{List, [], _∷_, _++_, map}
 use mathlib.Core.Bool.{Bool, true, false, _&&_, cond}
-use Prim.Native.Nat.{ℕ, zero, suc, _+_, _≤_, _<_}
+use Prim.Native.Nat.{ℕ, zero, suc, _+_, _-_, _*_, _≤_, _<_}
 use native.Mathlib.Nat.{zero-add}
 use native.Mathlib.Numerals.{add-one}
 use native.Mathlib.Omega.{arith}
-use lib.ListN.{length, getD, set, drop, length-drop, drop-of-length-le}
-use lib.Seq.{paste, paste-zero, paste-suc, length-paste, length-take-le, take-all, getD-take, getD-drop, drop-cons}
-use lib.IntN.{ℤ, pos, _+ℤ_}
+use native.Mathlib.Decide.{decLt}
+use lib.ListN.{length, getD, set, take, drop, length-map, length-set, length-drop, drop-of-length-le}
+use lib.Seq.{paste, paste-zero, paste-suc, length-paste, length-take-le, take-all, getD-take, getD-drop, getD-set-same, getD-set-other, drop-cons, ext-getD}
+use lib.IntN.{ℤ, pos, negℤ, _+ℤ_, _-ℤ_}
 use lib.Signed.{leZ, ltZ}
-use Rattle.laws.specs.Z.{zarith, minZ, Within, sum-within}
-use Rattle.laws.proofs.Lists.{and-true, and-false}
-use Rattle.laws.proofs.Each.{Each, each-at}
-use Rattle.laws.proofs.Filled.{part-pasted}
-use Rattle.lent.specs.Lanes.{lanesAt, zipped, sums, leasts, atMost}
+use Rattle.laws.specs.Z.{zarith, neg, parts, minZ, Within, sum-within}
+use Rattle.laws.proofs.Lists.{getD-map, and-true, and-false}
+use Rattle.laws.proofs.Each.{Each, each-at, each-append, each-map, each-take, each-drop}
+use Rattle.laws.proofs.Filled.{part-pasted, padded-full}
+use Rattle.lent.specs.Lanes.{lanesAt, arcAt, zipped, sums, leasts, atMost}
+use Rattle.lent.proofs.Lanes.{block, length-block, block-low, block-high, block-cost}
 
 -- ---- the lanes at a place
 pub length-lanes : (row : List ℤ) (at : ℕ) → at + 17 ≤ length row → length (lanesAt row at) ≡ 17
@@ -95,6 +97,119 @@ module _ (f : ℤ → ℤ → ℤ) (x y : List ℤ) (wide : length x ≡ 17) (sa
 
   pub zipped-more : {z : List ℤ} {k : ℕ} {v : ℤ} → Laid x 0 (zipped f x y) z k → k < 17 → v ≡ f (getD x k (pos 0)) (getD y k (pos 0)) → Laid x 0 (zipped f x y) (set z k v) (k + 1)
   zipped-more {k = k} {v = v} l h e = laid-more l k v h (sym (zero-add k)) (e ∙ sym (zipped-at f x y k (omega arith) (omega arith)))
+
+-- ---- a loop that lays a low and a high in each turn: z has those of s at the first k places, and at those from m on
+pub record Halved (s z : List ℤ) (m k : ℕ) : Type 0 where
+  pub long : length s ≡ 17
+  pub wide : length z ≡ 17
+  pub few : m ≤ 8
+  pub done : k ≤ m
+  pub first : (j : ℕ) → j < k → (getD z j (pos 0) ≡ getD s j (pos 0)) × (getD z (8 + j) (pos 0) ≡ getD s (8 + j) (pos 0))
+  pub rest : (j : ℕ) → m ≤ j → j < 8 → (getD z j (pos 0) ≡ getD s j (pos 0)) × (getD z (8 + j) (pos 0) ≡ getD s (8 + j) (pos 0))
+
+module _ {s z : List ℤ} {m k : ℕ} (l : Halved s z m k) where
+  -- one place more
+  pub halved-more : {a b : ℤ} → k < m → a ≡ getD s k (pos 0) → b ≡ getD s (8 + k) (pos 0) → Halved s (set (set z k a) (8 + k) b) m (k + 1)
+  halved-more {a} {b} h ea eb = record {
+    long = l .long;
+    wide = length-set (set z k a) (8 + k) b ∙ length-set z k a ∙ l .wide;
+    few = l .few;
+    done = omega arith;
+    first = λ j f. elim (decLt j k) [
+      | yes g ↦ (other j (omega (arith, l .few)) (λ e. omega arith) ∙ l .first j g .0, behind j (λ e. omega arith) ∙ l .first j g .1)
+      | no g ↦ let e : j ≡ k = omega arith in rw e here
+    ];
+    rest = λ j f g. (other j (omega arith) (λ e. omega arith) ∙ l .rest j f g .0, behind j (λ e. omega arith) ∙ l .rest j f g .1);
+  }
+    where
+      there : 8 + k < length (set z k a)
+      there = omega (arith, length-set z k a, l .wide, l .few)
+
+      here : (getD (set (set z k a) (8 + k) b) k (pos 0) ≡ getD s k (pos 0)) × (getD (set (set z k a) (8 + k) b) (8 + k) (pos 0) ≡ getD s (8 + k) (pos 0))
+      here = (
+        getD-set-other (set z k a) (8 + k) k b (pos 0) (λ e. omega arith) ∙ getD-set-same z k a (pos 0) (omega (arith, l .wide, l .few)) ∙ ea,
+        getD-set-same (set z k a) (8 + k) b (pos 0) there ∙ eb,
+      )
+
+      other : (j : ℕ) → j < 8 → (j ≡ k → ⊥) → getD (set (set z k a) (8 + k) b) j (pos 0) ≡ getD z j (pos 0)
+      other j f g = getD-set-other (set z k a) (8 + k) j b (pos 0) (λ e. omega arith) ∙ getD-set-other z k j a (pos 0) g
+
+      behind : (j : ℕ) → (j ≡ k → ⊥) → getD (set (set z k a) (8 + k) b) (8 + j) (pos 0) ≡ getD z (8 + j) (pos 0)
+      behind j g = getD-set-other (set z k a) (8 + k) (8 + j) b (pos 0) (λ e. g (omega arith)) ∙ getD-set-other z k (8 + j) a (pos 0) (λ e. omega (arith, l .few))
+
+  -- all of them, and the cost
+  pub halved-end : {c : ℤ} → m ≤ k → c ≡ getD s 16 (pos 0) → set z 16 c ≡ s
+  halved-end {c} h e = ext-getD (pos 0) (set z 16 c) s (length-set z 16 c ∙ l .wide ∙ sym (l .long)) at-place
+    where
+      half : (j : ℕ) → j < 8 → (getD z j (pos 0) ≡ getD s j (pos 0)) × (getD z (8 + j) (pos 0) ≡ getD s (8 + j) (pos 0))
+      half j f = elim (decLt j k) [ yes g ↦ l .first j g | no g ↦ l .rest j (omega arith) f ]
+
+      at-place : (j : ℕ) → j < length (set z 16 c) → getD (set z 16 c) j (pos 0) ≡ getD s j (pos 0)
+      at-place j f = elim (decLt j 16) [
+        | yes g ↦ getD-set-other z 16 j c (pos 0) (λ o. omega arith) ∙ elim (decLt j 8) [
+          | yes b ↦ half j b .0
+          | no b ↦ let o : 8 + (j - 8) ≡ j = omega arith in rw o at (half (j - 8) (omega arith) .1)
+        ]
+        | no g ↦ let o : j ≡ 16 = omega (arith, length-set z 16 c, l .wide) in rw o (getD-set-same z 16 c (pos 0) (omega (arith, l .wide)) ∙ e)
+      ]
+
+-- ---- the lanes of an arc: eight shares, the same with their signs turned, the price
+pub turned-within : {m : ℕ} {z : ℤ} → Within m z → Within m (negℤ z)
+turned-within {m} {z} h = record { size = omega (arith, h .size, neg z, parts z, parts (negℤ z)) }
+
+pub each-arc : (m : ℕ) (row : List ℤ) (v : ℕ) → Each (Within m) row → Each (Within m) (arcAt row v)
+each-arc m row v e =
+    let shares = take 8 (drop (v * 8) row) in
+    let own = each-take (Within m) 8 (drop (v * 8) row) (each-drop (Within m) (v * 8) row e) in
+    each-append (Within m) (shares ++ map negℤ shares) (getD row (64 + v) (pos 0) ∷ [])
+    (each-append (Within m) shares (map negℤ shares) own (each-map (Within m) (Within m) negℤ (λ z k. turned-within k) shares own)) (lane-within row (64 + v) e, tt)
+
+module _ (row : List ℤ) (v : ℕ) (long : length row ≡ 72) (h : v < 8) where
+  abbrev shares : List ℤ
+  shares = take 8 (drop (v * 8) row)
+
+  eight : length shares ≡ 8
+  eight = length-take-le 8 (drop (v * 8) row) (omega (arith, length-drop (v * 8) row))
+
+  turned : length (map negℤ shares) ≡ 8
+  turned = length-map shares negℤ ∙ eight
+
+  blocks : block (pos 0) shares (map negℤ shares) (getD row (64 + v) (pos 0)) ≡ arcAt row v
+  blocks = λ i. padded-full 8 (pos 0) shares eight i ++ padded-full 8 (pos 0) (map negℤ shares) turned i ++ (getD row (64 + v) (pos 0) ∷ [])
+
+  pub length-arc : length (arcAt row v) ≡ 17
+  length-arc = ap length (sym blocks) ∙ length-block (pos 0) shares (map negℤ shares) (getD row (64 + v) (pos 0))
+
+  share : (k : ℕ) → k < 8 → getD shares k (pos 0) ≡ getD row (v * 8 + k) (pos 0)
+  share k b = getD-take 8 (drop (v * 8) row) k (pos 0) b ∙ getD-drop (v * 8) row k (pos 0)
+
+  -- lanes with those of the arc added
+  module _ (x : List ℤ) (wide : length x ≡ 17) where
+    pub along-low : (k : ℕ) → k < 8 → getD (sums x (arcAt row v)) k (pos 0) ≡ getD x k (pos 0) +ℤ getD row (v * 8 + k) (pos 0)
+    along-low k b =
+        zipped-at _+ℤ_ x (arcAt row v) k (omega arith) (omega (arith, length-arc))
+        ∙ ap (λ (l : List ℤ). getD x k (pos 0) +ℤ getD l k (pos 0)) (sym blocks) ∙ ap (λ (z : ℤ). getD x k (pos 0) +ℤ z) (block-low (pos 0) shares (map negℤ shares) (getD row (64 + v) (pos 0)) k b ∙ share k b)
+
+    pub along-high : (k : ℕ) → k < 8 → getD (sums x (arcAt row v)) (8 + k) (pos 0) ≡ getD x (8 + k) (pos 0) -ℤ getD row (v * 8 + k) (pos 0)
+    along-high k b =
+        zipped-at _+ℤ_ x (arcAt row v) (8 + k) (omega arith) (omega (arith, length-arc))
+        ∙ ap (λ (l : List ℤ). getD x (8 + k) (pos 0) +ℤ getD l (8 + k) (pos 0)) (sym blocks)
+        ∙ ap (λ (z : ℤ). getD x (8 + k) (pos 0) +ℤ z) (block-high (pos 0) shares (map negℤ shares) (getD row (64 + v) (pos 0)) k b ∙ getD-map negℤ shares k (pos 0) (pos 0) (omega (arith, eight)) ∙ ap negℤ (share k b))
+
+    pub along-cost : getD (sums x (arcAt row v)) 16 (pos 0) ≡ getD x 16 (pos 0) +ℤ getD row (64 + v) (pos 0)
+    along-cost =
+        zipped-at _+ℤ_ x (arcAt row v) 16 (omega arith) (omega (arith, length-arc))
+        ∙ ap (λ (l : List ℤ). getD x 16 (pos 0) +ℤ getD l 16 (pos 0)) (sym blocks) ∙ ap (λ (z : ℤ). getD x 16 (pos 0) +ℤ z) (block-cost (pos 0) shares (map negℤ shares) (getD row (64 + v) (pos 0)) (pos 0))
+
+    pub along-start : Halved (sums x (arcAt row v)) x 8 0
+    along-start = record {
+      long = length-zipped _+ℤ_ x (arcAt row v) (wide ∙ sym length-arc) ∙ wide;
+      wide = wide;
+      few = omega arith;
+      done = omega arith;
+      first = λ j b. absurd (omega arith);
+      rest = λ j b c. absurd (omega arith);
+    }
 
 -- ---- a loop that asks of each lane whether it is at most its limit: `ok` is what it has after k of them
 -- one lane above its limit decides

@@ -1,11 +1,11 @@
 // A node's numbers in one direction as lanes: each rule's low, each rule's high with its sign turned, the cost. Least and sum go lane by lane.
 ghost use mathlib.Core.Path.{_≡_};
-ghost use Prim.Native.Nat.{_+_, _≤_};
+ghost use Prim.Native.Nat.{_+_, _<_, _≤_};
 ghost use lib.ListN.{length};
 ghost use lib.Seq.{paste};
 ghost use Rattle.laws.specs.Z.{Within, minZ};
 ghost use Rattle.laws.proofs.Each.{Each};
-ghost use Rattle.lent.specs.Lanes.{lanesAt, sums, leasts, atMost};
+ghost use Rattle.lent.specs.Lanes.{lanesAt, arcAt, sums, leasts, atMost};
 
 // Eight lows, eight turned highs, a cost.
 pub const LANES: usize = 17;
@@ -54,6 +54,27 @@ pub fn sum_of(x: [i32; 17], y: [i32; 17]) -> [i32; 17]
         z[k] = a + b;
         k += 1;
     }
+    z
+}
+
+// The lanes with those of an arc of step v added, from a slot's row of shares and prices.
+pub fn along(x: [i32; 17], row: &[i32], v: usize) -> [i32; 17]
+    requires { ⌜ Each (Within 10000000) x × (length (now row) ≡ 72) × Each (Within 10000000) (now row) × (v < 8) ⌝ }
+    ensures { λ r. ⌜ r ≡ sums x (arcAt (now (row .entry)) v) ⌝ }
+{
+    let mut z = x;
+    let mut k: usize = 0;
+    while k < 8 {
+        let share = row[v * 8 + k];
+        let low = x[k];
+        let high = x[8 + k];
+        z[k] = low + share;
+        z[8 + k] = high - share;
+        k += 1;
+    }
+    let cost = x[16];
+    let price = row[64 + v];
+    z[16] = cost + price;
     z
 }
 

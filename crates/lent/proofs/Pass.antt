@@ -26,7 +26,7 @@ use Rattle.lent.proofs.Ups.{roomVec, node-raises, node-tests}
 use Rattle.lent.proofs.Cells.{node-cells, down-lanes}
 
 -- a list that is filled up, by places
-padded-places : {A : Type 0} (n : ℕ) (z : A) (l : List A) → padded n z l ≡ map (λ j. getD l j z) (from 0 n)
+pub padded-places : {A : Type 0} (n : ℕ) (z : A) (l : List A) → padded n z l ≡ map (λ j. getD l j z) (from 0 n)
 padded-places n z l =
     sym (rw (length-padded z n l) at (map-places (λ j. getD l j z) (padded n z l) z (λ j h. sym (padded-at n z l j (rw (length-padded z n l) at h)))))
 

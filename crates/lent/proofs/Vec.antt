@@ -5,21 +5,21 @@ use mathlib.Core.Bool.{Bool, true, false, cond}
 use mathlib.Core.Option.{none, some}
 use Prim.Native.Nat.{ℕ, zero, suc, _+_, _*_, _-_, _≤_, _<_}
 use native.Mathlib.Omega.{arith}
-use native.Mathlib.Nat.{zero-add}
-use lib.ListN.{length, getD, set, take, drop, replicate, length-map, length-set, length-replicate, replicate-append-replicate}
-use lib.Seq.{paste, take-all, take-at, drop-at, take-append-add, drop-append-add}
+use native.Mathlib.Nat.{zero-add, zero-mul}
+use lib.ListN.{length, getD, set, take, drop, replicate, length-map, length-set, length-drop, length-append, length-replicate, replicate-append-replicate}
+use lib.Seq.{paste, take-all, take-at, drop-at, take-append-add, drop-append-add, take-append-le, drop-append-le, getD-append-add}
 use lib.IntN.{ℤ, pos, negℤ, _+ℤ_}
 use lib.Signed.{leZ}
 use Rattle.laws.specs.Z.{zarith, neg, parts, minZ, Within, widen, eqZ-no}
 use Rattle.laws.specs.Lists.{gather, from, padded}
-use Rattle.laws.proofs.Lists.{length-from, getD-from}
+use Rattle.laws.proofs.Lists.{length-from, getD-from, getD-map}
 use Rattle.laws.proofs.Filled.{length-padded, length-rows, each-padded}
-use Rattle.laws.proofs.Each.{Each, each-more, each-map, each-gather, each-from}
+use Rattle.laws.proofs.Each.{Each, each-more, each-append, each-map, each-gather, each-from}
 use Rattle.meaning.specs.Plan.{Rule, Campaign}
 use Rattle.meaning.specs.Diagram.{State, mergedState, child}
 use Rattle.meaning.specs.Filter.{Numbers, meet, over}
 use Rattle.meaning.proofs.Sizes.{larger}
-use Rattle.lent.specs.Lanes.{lanesAt, sums, leasts}
+use Rattle.lent.specs.Lanes.{lanesAt, arcAt, sums, leasts}
 use Rattle.lent.specs.Passes.{Slot, Row, far}
 use Rattle.lent.specs.Vec.{vec, arcVec, slotVec, rowVec, limitVec}
 use Rattle.lent.specs.Small.{Small, FitPair, FitSome, Fit}
@@ -29,9 +29,6 @@ use Rattle.lent.proofs.Lanes.{length-block, each-block, block-cost, pad
 pub length-vec : (d : Numbers) → length (vec d) ≡ 17
 length-vec none = refl
 length-vec (some a) = length-block (pos 0) (map (λ p. p .0) (a .0)) (map negℤ (map (λ p. p .1) (a .0))) (a .1)
-
-length-arc : (q : Campaign) (i v : ℕ) → length (arcVec q i v) ≡ 17
-length-arc q i v = let shares = map (λ (r : Rule). r .share i v) (q .rules) in length-block (pos 0) shares (map negℤ shares) (q .price i v)
 
 pub length-limit : (c : ℤ) (q : Campaign) → length (limitVec c q) ≡ 17
 length-limit c q = length-block (pos 2000000) (map (λ r. r .ub) (q .rules)) (map negℤ (map (λ r. r .lb) (q .rules))) c
@@ -58,11 +55,8 @@ vec-within q h few none f = each-padded (Within 4000000) 17 (pos 4000000) [] (re
 vec-within q h few (some a) f = each-more (Within (70000 * h)) (Within 4000000) (λ z k. larger (omega arith) k) (vec (some a)) (some-within q h a f)
 
 module _ (q : Campaign) (s : Small q) where
-  arc-within : (i v : ℕ) → v < 8 → Each (Within 4000000) (arcVec q i v)
-  arc-within i v l =
-      let shares = each-map (λ (r : Rule). (i v : ℕ) → v < 8 → Within 7000 (r .share i v)) (Within 4000000) (λ r. r .share i v) (λ r k. widen tt (k i v l)) (q .rules) (s .shares) in
-      let all = map (λ (r : Rule). r .share i v) (q .rules) in
-      each-block (Within 4000000) (pos 0) all (map negℤ all) (q .price i v) within-zero shares (each-neg 4000000 all shares) (widen tt (s .prices i v l))
+  share-within : (i v : ℕ) → v < 8 → Each (Within 4000000) (map (λ r. r .share i v) (q .rules))
+  share-within i v l = each-map (λ (r : Rule). (i v : ℕ) → v < 8 → Within 7000 (r .share i v)) (Within 4000000) (λ r. r .share i v) (λ r k. widen tt (k i v l)) (q .rules) (s .shares)
 
   pub limit-within : {c : ℤ} → Within 2000000 c → Each (Within 4000000) (limitVec c q)
   limit-within {c} h =
@@ -70,6 +64,11 @@ module _ (q : Campaign) (s : Small q) where
       let lows = each-map (λ (r : Rule). Within 200000 (r .lb) × Within 200000 (r .ub)) (Within 4000000) (λ r. r .lb) (λ r k. widen tt (k .0)) (q .rules) (s .bounds) in
       let lbs = map (λ (r : Rule). r .lb) (q .rules) in
       each-block (Within 4000000) (pos 2000000) (map (λ r. r .ub) (q .rules)) (map negℤ lbs) c (record { size = omega arith }) highs (each-neg 4000000 lbs lows) (widen tt h)
+
+pub turned-padded : (n : ℕ) (l : List ℤ) → map negℤ (padded n (pos 0) l) ≡ padded n (pos 0) (map negℤ l)
+turned-padded zero l = refl
+turned-padded (suc n) [] = ap (λ (m : List ℤ). pos 0 ∷ m) (turned-padded n [])
+turned-padded (suc n) (x ∷ l) = ap (λ (m : List ℤ). negℤ x ∷ m) (turned-padded n l)
 
 -- ---- rows of 17 lanes
 module _ {A : Type 0} where
@@ -80,15 +79,15 @@ module _ {A : Type 0} where
   padded-all (suc n) z [] e = absurd (omega arith)
   padded-all (suc n) z (x ∷ l) e = ap (λ (r : List A). x ∷ r) (padded-all n z l (omega arith))
 
-module _ {A : Type 0} (g : A → List ℤ) (wide : (x : A) → length (g x) ≡ 17) where
-  -- the lanes of place k
-  row-lanes : (l : List A) (k : ℕ) (d : A) → k < length l → lanesAt (gather g l) (k * 17) ≡ g (getD l k d)
-  row-lanes [] k d h = absurd (omega arith)
-  row-lanes (x ∷ l) zero d h = take-at (g x) (gather g l) 17 (wide x)
-  row-lanes (x ∷ l) (suc k) d h =
-      let place : suc k * 17 ≡ length (g x) + k * 17 = omega (arith, wide x) in
-      rw (place, drop-append-add (g x) (gather g l) (k * 17)) (row-lanes l k d (omega arith))
+-- the lanes of place k
+row-lanes : {A : Type 0} (w : ℕ) (g : A → List ℤ) → ((x : A) → length (g x) ≡ w) → (l : List A) (k : ℕ) (d : A) → k < length l → take w (drop (k * w) (gather g l)) ≡ g (getD l k d)
+row-lanes w g wide [] k d h = absurd (omega arith)
+row-lanes w g wide (x ∷ l) zero d h = rw (zero-mul w) (take-at (g x) (gather g l) w (wide x))
+row-lanes w g wide (x ∷ l) (suc k) d h =
+    let place : suc k * w ≡ length (g x) + k * w = omega (arith, wide x) in
+    rw (place, drop-append-add (g x) (gather g l) (k * w)) (row-lanes w g wide l k d (omega arith))
 
+module _ {A : Type 0} (g : A → List ℤ) (wide : (x : A) → length (g x) ≡ 17) where
   -- other lanes there
   row-paste : (l : List A) (k : ℕ) (x : A) → k < length l → paste (gather g l) (k * 17) (g x) 17 ≡ gather g (set l k x)
   row-paste [] k x h = absurd (omega arith)
@@ -101,7 +100,7 @@ module _ {A : Type 0} (g : A → List ℤ) (wide : (x : A) → length (g x) ≡ 
       (append-assoc (g y) (take (k * 17) all ++ take 17 (g x)) (drop (k * 17 + 17) all) ∙ ap (λ (r : List ℤ). g y ++ r) (row-paste l k x (omega arith)))
 
 pub row-at : (ds : List Numbers) (j : ℕ) → j < 16 → lanesAt (rowVec ds) (j * 17) ≡ vec (getD ds j none)
-row-at ds j h = row-lanes vec length-vec (padded 16 none ds) j none (rw (length-padded {A = Numbers} none 16 ds) h) ∙ ap vec (padded-at 16 none ds j h)
+row-at ds j h = row-lanes 17 vec length-vec (padded 16 none ds) j none (rw (length-padded {A = Numbers} none 16 ds) h) ∙ ap vec (padded-at 16 none ds j h)
 
 pub row-set : (l : List Numbers) (k : ℕ) (x : Numbers) → length l ≡ 16 → k < 16 → paste (rowVec l) (k * 17) (vec x) 17 ≡ rowVec (set l k x)
 row-set l k x e h =
@@ -143,16 +142,52 @@ row-behind w few us h =
     ∙ drop-at (replicate k (pos 4000000)) rest k (length-replicate k (pos 4000000))
 
 module _ (q : Campaign) (s : Small q) where
-  pub slot-at : (i v : ℕ) → v < 8 → lanesAt (slotVec q i) (v * 17) ≡ arcVec q i v
-  slot-at i v h =
-      row-lanes (arcVec q i) (length-arc q i) (from 0 (q .steps)) v 0 (omega (arith, length-from 0 (q .steps), s .steps))
-      ∙ ap (arcVec q i) (getD-from 0 (q .steps) v (omega (arith, s .steps)) ∙ zero-add v)
+  module _ (i : ℕ) where
+    -- eight shares of step v, of all steps, and the prices behind them
+    abbrev shares : ℕ → List ℤ
+    shares v = padded 8 (pos 0) (map (λ r. r .share i v) (q .rules))
 
-  pub slot-vec : (i : ℕ) → Slot (slotVec q i)
-  slot-vec i = record {
-    long = length-rows (arcVec q i) 17 (length-arc q i) (from 0 (q .steps)) ∙ omega (arith, length-from 0 (q .steps), s .steps);
-    inside = each-gather (λ v. v < 8) (Within 4000000) (arcVec q i) (arc-within q s i) (from 0 (q .steps)) (each-from (λ v. v < 8) 0 (q .steps) (λ v h. omega (arith, s .steps)));
-  }
+    abbrev all : List ℤ
+    all = gather shares (from 0 (q .steps))
+
+    abbrev prices : List ℤ
+    prices = map (λ v. q .price i v) (from 0 (q .steps))
+
+    eight : (v : ℕ) → length (shares v) ≡ 8
+    eight v = length-padded (pos 0) 8 (map (λ r. r .share i v) (q .rules))
+
+    all-long : length all ≡ 64
+    all-long = length-rows shares 8 eight (from 0 (q .steps)) ∙ omega (arith, length-from 0 (q .steps), s .steps)
+
+    step-is : (v : ℕ) → v < 8 → getD (from 0 (q .steps)) v 0 ≡ v
+    step-is v h = getD-from 0 (q .steps) v (omega (arith, s .steps)) ∙ zero-add v
+
+    pub shares-at : (v : ℕ) → v < 8 → take 8 (drop (v * 8) (slotVec q i)) ≡ padded 8 (pos 0) (map (λ r. r .share i v) (q .rules))
+    shares-at v h =
+        let there : v * 8 ≤ length all = omega (arith, all-long) in
+        ap (take 8) (drop-append-le (v * 8) all prices there)
+        ∙ take-append-le 8 (drop (v * 8) all) prices (omega (arith, length-drop (v * 8) all, all-long))
+        ∙ row-lanes 8 shares eight (from 0 (q .steps)) v 0 (omega (arith, length-from 0 (q .steps), s .steps)) ∙ ap shares (step-is v h)
+
+    price-at : (v : ℕ) → v < 8 → getD (slotVec q i) (64 + v) (pos 0) ≡ q .price i v
+    price-at v h =
+        let place : 64 + v ≡ length all + v = omega (arith, all-long) in
+        ap (λ (k : ℕ). getD (all ++ prices) k (pos 0)) place ∙ getD-append-add all prices v (pos 0)
+        ∙ getD-map (λ v. q .price i v) (from 0 (q .steps)) v 0 (pos 0) (omega (arith, length-from 0 (q .steps), s .steps)) ∙ ap (λ (k : ℕ). q .price i k) (step-is v h)
+
+    pub slot-at : (v : ℕ) → v < 8 → arcAt (slotVec q i) v ≡ arcVec q i v
+    slot-at v h = rw (shares-at v h, price-at v h, turned-padded 8 (map (λ (r : Rule). r .share i v) (q .rules)))
+
+    below : Each (λ v. v < 8) (from 0 (q .steps))
+    below = each-from (λ v. v < 8) 0 (q .steps) (λ v h. omega (arith, s .steps))
+
+    pub slot-vec : Slot (slotVec q i)
+    slot-vec = record {
+      long = length-append all prices ∙ omega (arith, all-long, length-map (from 0 (q .steps)) (λ v. q .price i v), length-from 0 (q .steps), s .steps);
+      inside = each-append (Within 4000000) all prices
+          (each-gather (λ v. v < 8) (Within 4000000) shares (λ v l. each-padded (Within 4000000) 8 (pos 0) (map (λ r. r .share i v) (q .rules)) within-zero (share-within q s i v l)) (from 0 (q .steps)) below)
+          (each-map (λ v. v < 8) (Within 4000000) (λ v. q .price i v) (λ v l. widen tt (s .prices i v l)) (from 0 (q .steps)) below);
+    }
 
 -- ---- a node without numbers
 

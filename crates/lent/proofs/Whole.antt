@@ -17,7 +17,7 @@ use Rattle.laws.specs.Z.{Within}
 use Rattle.laws.specs.Lists.{every, flat, gather, from, padded, parted}
 use Rattle.laws.proofs.Lists.{and-l, and-r, length-from, getD-map}
 use Rattle.laws.proofs.Parts.{length-fields}
-use Rattle.laws.proofs.Filled.{length-rows, getD-parted, padded-full}
+use Rattle.laws.proofs.Filled.{length-rows, length-padded, getD-parted, getD-padded, padded-full}
 use Rattle.laws.proofs.Each.{Each, each-at, each-more, each-from, each-gather, each-map}
 use Rattle.meaning.specs.Plan.{Campaign}
 use Rattle.meaning.specs.Diagram.{Arcs}
@@ -25,7 +25,7 @@ use Rattle.meaning.specs.Filter.{Numbers, zeros, begins, upNode, ups, downNode,
 use Rattle.meaning.specs.Buffers.{nodeNeed, nodeCells, layerCells as cellsOf, allCells, ofForm}
 use Rattle.lent.specs.Wide.{laid}
 use Rattle.lent.specs.Lanes.{lanesAt}
-use Rattle.lent.specs.Passes.{Row, Bytes, HalfNode, HalfCells, far, bringLayer, raiseLayer, nodeLanes, roomLanes, downCells, upCells, testLayer, layerCells}
+use Rattle.lent.specs.Passes.{Row, Bytes, HalfNode, HalfCells, far, bringLayer, raiseLayer, nodeLanes, downLanes, roomLanes, downCells, upCells, testLayer, layerCells}
 use Rattle.lent.specs.Vec.{vec, slotVec, rowVec, testOf, limitVec}
 use Rattle.lent.specs.Small.{Small, Fit, FewBytes}
 use Rattle.lent.proofs.Places.{padded-same, made-at, no-number-tested, nextDowns, cells-none}
@@ -34,7 +34,7 @@ use Rattle.lent.proofs.Fit.{zeros-fit, downs-fit, ups-fit}
 use Rattle.lent.proofs.Vec.{row-at, row-vec, row-own, row-behind}
 use Rattle.lent.proofs.Downs.{layer-brings}
 use Rattle.lent.proofs.Cells.{zeros-vec, node-cells, cells-within}
-use Rattle.lent.proofs.Pass.{reads-down, layer-raises, layer-tests, layer-cells, row-cells}
+use Rattle.lent.proofs.Pass.{padded-places, reads-down, layer-raises, layer-tests, layer-cells, row-cells}
 
 -- ---- lists
 module _ {A B : Type 0} where
@@ -45,6 +45,10 @@ module _ {A B : Type 0} where
   gather-map : {C : Type 0} (g : B → List C) (f : A → B) (l : List A) → gather g (map f l) ≡ gather (λ x. g (f x)) l
   gather-map g f [] = refl
   gather-map {C} g f (x ∷ l) = ap (λ (r : List C). g (f x) ++ r) (gather-map g f l)
+
+pub gather-below : {B : Type 0} (g h : ℕ → List B) (n : ℕ) → ((j : ℕ) → j < n → g j ≡ h j) → (i k : ℕ) → i + k ≤ n → gather g (from i k) ≡ gather h (from i k)
+gather-below g h n e i zero l = refl
+gather-below g h n e i (suc k) l = rw (e i (omega arith), gather-below g h n e (suc i) k (omega arith))
 
 -- rows of k elements each, one behind the other, and cut again
 rows-parted : {A B : Type 0} (g : A → List B) (k : ℕ) → ((x : A) → length (g x) ≡ k) → (l : List A) → parted (length l) k (gather g l) ≡ map g l
@@ -375,6 +379,21 @@ module _ (q : Campaign) (s : Small q) (w : ℕ) (a : Arcs) (f : Whole w a) where
     pub down-behind : (i : ℕ) → i ≤ length a → drop (w * 17) (rowVec (downsAt q a i)) ≡ replicate ((16 - w) * 17) (pos 4000000)
     down-behind i h = row-behind w (f .wide) (downsAt q a i) (downs-few i h)
 
+    -- the row, taken back from the cells between the passes
+    pub half-taken : (i : ℕ) → i ≤ length a
+        → flat (map (downLanes (length (q .rules))) (parted w (4 * length (q .rules) + 3) (halfBlock q w a i))) ++ replicate ((16 - w) * 17) (pos 4000000) ≡ rowVec (downsAt q a i)
+    half-taken i h =
+        let m = length (q .rules) in
+        let ds = downsAt q a i in
+        let own = padded w none ds in
+        let read : (j : ℕ) → j < w → downLanes m (halfRow q w a i j) ≡ vec (getD ds j none) = λ j l. reads-down q s i (omega (arith, f .long)) ds (down-fits i) j (omega (arith, f .wide)) in
+        let nodes : flat (map (downLanes m) (parted w (4 * m + 3) (halfBlock q w a i))) ≡ gather vec own =
+        ap (λ (l : List (List ℤ)). flat (map (downLanes m) l)) (half-parted q w a i) ∙ flat-map (downLanes m) (map (halfRow q w a i) (from 0 w)) ∙ gather-map (downLanes m) (halfRow q w a i) (from 0 w)
+        ∙ gather-below (λ j. downLanes m (halfRow q w a i j)) (λ j. vec (getD ds j none)) w read 0 w (omega arith) ∙ sym (gather-map vec (λ j. getD ds j none) (from 0 w)) ∙ ap (gather vec) (sym (padded-places w none ds)) in
+        let few : length own ≡ w = length-padded none w ds in
+        let same : rowVec own ≡ rowVec ds = ap (gather vec) (padded-same 16 none own ds (λ j. getD-padded w ds j none (downs-few i h))) in
+        (λ j. nodes j ++ replicate ((16 - sym few j) * 17) (pos 4000000)) ∙ sym (row-own own (omega (arith, f .wide))) ∙ same
+
     pub up-behind : (i : ℕ) → i ≤ length a → drop (w * 17) (rowVec (upsAt q a i)) ≡ replicate ((16 - w) * 17) (pos 4000000)
     up-behind i h = row-behind w (f .wide) (upsAt q a i) (ups-few i h)
 
@@ -385,6 +404,19 @@ module _ (q : Campaign) (s : Small q) (w : ℕ) (a : Arcs) (f : Whole w a) where
   last-turn =
       let n = length a in
       rw (half-parted q w a n) (ap flat (row-cells q s n (n - n) (f .long) (omega (arith, f .long)) (downsAt q a n) (upsAt q a n) (down-fits n) (up-fits n) w (f .wide)))
+
+-- ---- arcs of the same form that agree above layer r: so do the down numbers up to it
+module _ (q : Campaign) (w : ℕ) (a a′ : Arcs) (f : Whole w a) (f′ : Whole w a′) (long : length a ≡ length a′) (r : ℕ) (few : r ≤ length a) (same : (j : ℕ) → j < r → getD a j [] ≡ getD a′ j []) where
+  counts-same : (j : ℕ) → nodeCount (drop j a) ≡ nodeCount (drop j a′)
+  counts-same j = elim (decLt j (length a)) [
+    | yes h ↦ rw (drop-cons a j [] h, drop-cons a′ j [] (omega arith)) (f .full j h .long ∙ sym (f′ .full j (omega arith) .long))
+    | no h ↦ rw (drop-of-length-le a {i = j} (omega arith), drop-of-length-le a′ {i = j} (omega arith)) refl
+  ]
+
+  pub downs-same : (i : ℕ) → i ≤ r → downsAt q a i ≡ downsAt q a′ i
+  downs-same zero h = down-first q a ∙ sym (down-first q a′)
+  downs-same (suc i) h =
+      down-next q a i (omega arith) ∙ (λ j. map (λ k. downAt q i k (downs-same i (omega arith) j) (same i (omega arith) j)) (from 0 (counts-same (suc i) j))) ∙ sym (down-next q a′ i (omega arith))
 
 -- ---- arcs in bytes: n layers of w nodes of 8 bytes
 pub parted-count : {A : Type 0} (n k : ℕ) (l : List A) → length (parted n k l) ≡ n

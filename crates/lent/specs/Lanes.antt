@@ -1,15 +1,19 @@
 -- What do lanes say, lane by lane?
-use mathlib.Core.List.{List, [], _∷_}
+use mathlib.Core.List.{List, [], _∷_, _++_, map}
 use mathlib.Core.Bool.{Bool, true, _&&_}
-use Prim.Native.Nat.{ℕ}
-use lib.ListN.{take, drop}
-use lib.IntN.{ℤ, _+ℤ_}
+use Prim.Native.Nat.{ℕ, _+_, _*_}
+use lib.ListN.{getD, take, drop}
+use lib.IntN.{ℤ, pos, negℤ, _+ℤ_}
 use lib.Signed.{leZ}
 use Rattle.laws.specs.Z.{minZ}
 
 -- the 17 lanes that stand at a place of a row
 abbrev pub lanesAt : List ℤ → ℕ → List ℤ
 lanesAt row at = take 17 (drop at row)
+
+-- a slot's row has eight shares for each of 8 steps and then their prices: the lanes that an arc of step v adds
+abbrev pub arcAt : List ℤ → ℕ → List ℤ
+arcAt row v = let shares = take 8 (drop (v * 8) row) in shares ++ map negℤ shares ++ (getD row (64 + v) (pos 0) ∷ [])
 
 -- lane by lane what an operation makes of two
 abbrev pub zipped : (ℤ → ℤ → ℤ) → List ℤ → List ℤ → List ℤ

@@ -9,11 +9,11 @@ use lib.IntN.{ℤ, pos, negℤ, _-ℤ_}
 use Rattle.laws.specs.Z.{eqZ, Within}
 use Rattle.laws.specs.Lists.{gather, from, padded, parted}
 use Rattle.laws.proofs.Each.{Each}
-use Rattle.lent.specs.Lanes.{lanesAt, zipped, sums, leasts, atMost}
+use Rattle.lent.specs.Lanes.{lanesAt, arcAt, zipped, sums, leasts, atMost}
 
--- ---- the forms: a slot's row has 17 lanes for each of 8 steps, a layer's row 17 for each of 16 nodes; a byte leads to one of 16 places
+-- ---- the forms: a slot's row has 8 shares for each of 8 steps and their prices, a layer's row 17 lanes for each of 16 nodes; a byte leads to one of 16 places
 pub record Slot (row : List ℤ) : Type 0 where
-  pub long : length row ≡ 136
+  pub long : length row ≡ 72
   pub inside : Each (Within 4000000) row
 
 pub record Row (row : List ℤ) : Type 0 where
@@ -39,7 +39,7 @@ nowhere = replicate 17 (pos 4000000)
 -- an arc with step v brings the lanes x to the place that its byte leads to; 0 leads nowhere
 abbrev pub bring : List ℤ → List ℤ → ℕ → ℕ → List ℤ → List ℤ
 bring row x v zero next = next
-bring row x v (suc k) next = paste next (k * 17) (leasts (lanesAt next (k * 17)) (sums x (lanesAt row (v * 17)))) 17
+bring row x v (suc k) next = paste next (k * 17) (leasts (lanesAt next (k * 17)) (sums x (arcAt row v))) 17
 
 -- the arcs of a node, from step v on
 abbrev pub bringNode : List ℤ → List ℤ → ℕ → List ℕ → List ℤ → List ℤ
@@ -55,7 +55,7 @@ bringLayer row here j (bs ∷ l) next =
 -- ---- up
 -- what an arc with step v brings up from place k of the next layer
 abbrev pub arcLanes : List ℤ → List ℤ → ℕ → ℕ → List ℤ
-arcLanes row next v k = sums (lanesAt next (k * 17)) (lanesAt row (v * 17))
+arcLanes row next v k = sums (lanesAt next (k * 17)) (arcAt row v)
 
 -- an arc counts if its child has numbers
 abbrev pub raise : List ℤ → List ℤ → ℕ → ℕ → List ℤ → List ℤ

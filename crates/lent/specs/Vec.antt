@@ -22,9 +22,10 @@ vec (some a) = lanesOf (pos 0) (map (λ p. p .0) (a .0)) (map (λ p. p .1) (a .0
 abbrev pub arcVec : Campaign → ℕ → ℕ → List ℤ
 arcVec q i v = let shares = map (λ r. r .share i v) (q .rules) in lanesOf (pos 0) shares shares (q .price i v)
 
--- of all steps of a slot
+-- a slot's row: of each step eight shares, then the prices
 abbrev pub slotVec : Campaign → ℕ → List ℤ
-slotVec q i = gather (arcVec q i) (from 0 (q .steps))
+slotVec q i =
+    gather (λ v. padded 8 (pos 0) (map (λ r. r .share i v) (q .rules))) (from 0 (q .steps)) ++ map (λ v. q .price i v) (from 0 (q .steps))
 
 -- of a layer's nodes, 16 in a row
 abbrev pub rowVec : List Numbers → List ℤ

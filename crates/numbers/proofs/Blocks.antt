@@ -1,17 +1,15 @@
 -- What does a buffer of n blocks of s elements each hold while a loop lays them, from the first on, or from the last back?
 use mathlib.Core.Path.{_≡_, refl, sym, ap, _∙_}
 use mathlib.Core.List.{List, [], _∷_, _++_}
-use mathlib.Core.Bool.{Bool, true, false, not, _&&_, _||_}
 use Prim.Native.Nat.{ℕ, zero, suc, _+_, _*_, _-_, _≤_, _<_}
 use native.Mathlib.Nat.{zero-add, zero-mul, suc-mul}
 use native.Mathlib.Omega.{arith}
-use lib.ListN.{length, take, drop, take-append-drop, length-drop, drop-of-length-le}
-use lib.Seq.{length-take-le, take-all, take-take, drop-drop, drop-append-add, take-at, drop-at}
-use Rattle.laws.specs.Lists.{gather, from, same}
+use lib.ListN.{length, take, drop, take-append-drop, drop-of-length-le}
+use lib.Seq.{length-take-le, take-all, take-take, drop-drop, drop-append-add, take-append-add, take-at, drop-at}
+use Rattle.laws.specs.Lists.{gather, from}
 use Rattle.laws.proofs.Filled.{take-within, gather-more}
 use Rattle.laws.proofs.Lists.{from-more}
 use Rattle.rows.proofs.Laid.{place-in, put, put-pastes, pasted-first, pasted-long}
-use Rattle.rows.proofs.Up.{same-append}
 
 -- ---- from the first on: k are laid
 pub record Onward {A : Type 0} (s : ℕ) (f : ℕ → List A) (n : ℕ) (c : List A) (k : ℕ) : Type 0 where
@@ -91,30 +89,14 @@ block-at s f wide i (suc n) (suc k) h =
     let on : i + suc k ≡ suc i + k = omega arith in
     rw (place, drop-append-add (f i) (gather f (from (suc i) n)) (k * s), on) (block-at s f wide (suc i) n k (omega arith))
 
--- ---- whether what is laid, from block k on, is other than what stood there
-pub record Fell (s : ℕ) (f : ℕ → List ℕ) (n : ℕ) (x : List ℕ) (t : Bool) (k : ℕ) : Type 0 where
-  pub is : t ≡ not (same (drop (k * s) x) (gather f (from k (n - k))))
+-- the first k of them
+pub blocks-first : {A : Type 0} (s : ℕ) (f : ℕ → List A) → ((j : ℕ) → length (f j) ≡ s) → (i n k : ℕ) → k ≤ n → take (k * s) (gather f (from i n)) ≡ gather f (from i k)
+blocks-first s f wide i n zero h = rw (zero-mul s) refl
+blocks-first s f wide i zero (suc k) h = absurd (omega arith)
+blocks-first s f wide i (suc n) (suc k) h =
+    let place : suc k * s ≡ length (f i) + k * s = omega (arith, wide i, suc-mul k s) in
+    rw (place, take-append-add (f i) (gather f (from (suc i) n)) (k * s), blocks-first s f wide (suc i) n k (omega arith))
 
-pub fell-start : {s n : ℕ} {f : ℕ → List ℕ} {x : List ℕ} → length x ≡ n * s → Fell s f n x false n
-fell-start {s} {n} {f} {x} long = record { is = let o : n - n ≡ 0 = omega arith in rw (o, drop-of-length-le x {i = n * s} (omega arith)) refl }
-
-either : (a b : Bool) → (not b || not a) ≡ not (a && b)
-either true true = refl
-either true false = refl
-either false true = refl
-either false false = refl
-
-pub fell-more : {s n : ℕ} {f : ℕ → List ℕ} {x : List ℕ} {t t′ hit : Bool} {y : List ℕ} {k : ℕ} → Fell s f n x t (suc k) → length x ≡ n * s → k < n → y ≡ f k → length y ≡ s
-    → hit ≡ not (same (take s (drop (k * s) x)) y) → t′ ≡ (t || hit) → Fell s f n x t′ k
-fell-more {s} {n} {f} {x} {t} {t′} {hit} {y} {k} b long h e l r d =
-    let place = place-in n s k h in
-    let part = take s (drop (k * s) x) in
-    let rest = drop (suc k * s) x in
-    let laid = gather f (from (suc k) (n - suc k)) in
-    let whole : part ++ rest ≡ drop (k * s) x = ap (λ (l : List ℕ). part ++ l) (ap (λ (j : ℕ). drop j x) (suc-mul k s) ∙ sym (drop-drop s (k * s) x)) ∙ take-append-drop s (drop (k * s) x) in
-    let all : y ++ laid ≡ gather f (from k (n - k)) = (λ i. e i ++ laid) ∙ sym (one-more f n k h) in
-    let parts : length part ≡ length y = length-take-le s (drop (k * s) x) (omega (arith, length-drop (k * s) x)) ∙ sym l in
-    record { is = d ∙ (λ j. b .is j || r j) ∙ either (same part y) (same rest laid) ∙ ap not (sym (same-append part y rest laid parts)) ∙ (λ j. not (same (whole j) (all j))) }
-
-pub fell-end : {s n : ℕ} {f : ℕ → List ℕ} {x : List ℕ} {t : Bool} → Fell s f n x t 0 → t ≡ not (same x (gather f (from 0 n)))
-fell-end {s} {n} {f} {x} {t} b = let o : n - 0 ≡ n = omega arith in rw (zero-mul s, o) at (b .is)
+-- ---- a block laid again as it stood
+pub put-again : {A : Type 0} (c y : List A) (at s : ℕ) → y ≡ take (at + s - at) (drop at c) → put c at s y ≡ c
+put-again {A} c y at s e = let k = at + s - at in ap (λ (l : List A). take at c ++ l) ((λ j. e j ++ drop k (drop at c)) ∙ take-append-drop k (drop at c)) ∙ take-append-drop at c

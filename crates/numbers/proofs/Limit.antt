@@ -6,7 +6,6 @@ use native.Mathlib.Omega.{arith}
 use lib.ListN.{length, getD, set, replicate, length-append}
 use lib.Seq.{set-append-left, set-at}
 use lib.IntN.{ℤ, pos, negℤ}
-use Rattle.laws.specs.Z.{Within}
 use Rattle.laws.specs.Lists.{from, padded}
 use Rattle.laws.proofs.Filled.{length-padded}
 use Rattle.meaning.specs.Plan.{Rule}
@@ -16,6 +15,7 @@ use Rattle.problem.specs.Held.{saidAt, campaignOf, faultIn}
 use Rattle.problem.proofs.Faultless.{right}
 use Rattle.lent.specs.Vec.{lanesOf, limitVec}
 use Rattle.rows.proofs.Free.{set-behind}
+use Rattle.slot.specs.Tables.{leastsIn, mostsIn, Tabled}
 use Rattle.slot.proofs.Laws.{entry-laid}
 use Rattle.slot.proofs.Said.{map-map}
 use Rattle.numbers.specs.Whole.{Bounding, limitLanes}
@@ -73,8 +73,15 @@ module _ (p : Problem) where
   rules-map : (g : Rule → ℤ) → map g (campaignOf p .rules) ≡ map (λ k. g (ruleOf (saidAt p k))) (from 0 (p .m))
   rules-map g = ap (map g) (map-map ruleOf (saidAt p) (from 0 (p .m))) ∙ map-map g (λ (k : ℕ). ruleOf (saidAt p k)) (from 0 (p .m))
 
-  pub limit-said : (c : ℤ) → limitLanes (p .m) (p .lb) (p .ub) c ≡ limitVec c (campaignOf p)
-  limit-said c = let ubs = rules-map (λ r. r .ub) in let lbs = rules-map (λ r. r .lb) in sym (λ j. lanesOf (pos 2000000) (ubs j) (lbs j) c)
+  module _ {coefs : List ℤ} {values : List ℕ} (t : Tabled p coefs values) where
+    pub limit-said : (c : ℤ) → limitLanes (p .m) (leastsIn coefs) (mostsIn coefs) c ≡ limitVec c (campaignOf p)
+    limit-said c =
+        let ubs = rules-map (λ r. r .ub) in
+        let lbs = rules-map (λ r. r .lb) in
+        (λ j. limitLanes (p .m) (t .leasts-are j) (t .mosts-are j) c) ∙ sym (λ j. lanesOf (pos 2000000) (ubs j) (lbs j) c)
 
-  pub bounding : faultIn version1 p ≡ 0 → Bounding (p .m) (p .lb) (p .ub)
-  bounding h = let ok = right version1 p h in record { few = ok .head .rules; low = λ r l. ok .rule r l .fields .low; high = λ r l. ok .rule r l .fields .high }
+    pub bounding : faultIn version1 p ≡ 0 → Bounding (p .m) (leastsIn coefs) (mostsIn coefs)
+    bounding h =
+        let ok = right version1 p h in
+        let said : Bounding (p .m) (p .lb) (p .ub) = record { few = ok .head .rules; low = λ r l. ok .rule r l .fields .low; high = λ r l. ok .rule r l .fields .high } in
+        rw (t .leasts-are, t .mosts-are) said

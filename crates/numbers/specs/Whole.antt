@@ -1,15 +1,15 @@
 -- When may the passes run, and what stands in the cells between them?
 use mathlib.Core.Path.{_≡_}
 use mathlib.Core.List.{List, map}
-use mathlib.Core.Bool.{true}
-use Prim.Native.Nat.{ℕ, _≤_, _<_}
-use lib.ListN.{length, getD, replicate}
+use mathlib.Core.Bool.{Bool, true, false}
+use Prim.Native.Nat.{ℕ, suc, _*_, _≤_, _<_}
+use lib.ListN.{length, getD, take, replicate}
 use lib.IntN.{ℤ, pos}
 use Rattle.laws.specs.Z.{Within}
 use Rattle.laws.specs.Lists.{flat, from, padded}
-use Rattle.meaning.specs.Plan.{Campaign}
+use Rattle.meaning.specs.Plan.{Campaign, slots}
 use Rattle.meaning.specs.Problem.{version1}
-use Rattle.meaning.specs.Filter.{Numbers, zeros}
+use Rattle.meaning.specs.Filter.{Numbers, zeros, downNumbers}
 use Rattle.meaning.specs.Buffers.{arcsNeed, arcsIn, ofForm, nodeNeed, nodeCells}
 use Rattle.lent.specs.Vec.{lanesOf}
 use Rattle.problem.specs.Held.{faultIn}
@@ -20,11 +20,6 @@ pub record Ready (p : Problem) (w : ℕ) : Type 0 where
   pub right : faultIn version1 p ≡ 0
   pub some : 1 ≤ w
   pub few : w ≤ 16
-
--- the problem that has these numbers and arrays
-abbrev pub held : ℕ → ℕ → List ℕ → List ℤ → List ℕ → List ℕ → List ℕ → List ℤ → List ℤ → List ℤ → Problem
-held n m sets weights kinds values slots coefs lb ub =
-    record { n = n; m = m; sets = sets; weights = weights; kinds = kinds; values = values; slots = slots; coefs = coefs; lb = lb; ub = ub }
 
 -- at most eight rules, each bound in its range
 pub record Bounding (m : ℕ) (lbs ubs : List ℤ) : Type 0 where
@@ -44,3 +39,16 @@ pub record Formed (q : Campaign) (w : ℕ) (b : List ℕ) : Type 0 where
 -- between the passes: the down numbers of every node, the up numbers at zero
 abbrev pub halfCells : Campaign → ℕ → List (List Numbers) → List ℤ
 halfCells q w ds = flat (map (λ l. flat (padded w (replicate (nodeNeed q) (pos 0)) (map (λ d. nodeCells (nodeNeed q) d (zeros q)) l))) ds)
+
+-- the down numbers of the layers up to `from` stand in the cells already, unless it is the first
+pub record Standing (q : Campaign) (w from : ℕ) (arcs : List ℕ) (cells : List ℤ) : Type 0 where
+  pub most : from ≤ slots q
+  pub are : 0 < from → let k = suc from * (w * nodeNeed q) in take k cells ≡ take k (halfCells q w (downNumbers q (arcsIn q w arcs)))
+
+-- r is the first of n layers that lost an arc, or n: above it no byte changed, and, if the test is not free, no cell up to it
+pub record Fell (n bytes size : ℕ) (arcs arcs′ : List ℕ) (cells cells′ : List ℤ) (free : Bool) (r : ℕ) : Type 0 where
+  pub most : r ≤ n
+  pub none : r ≡ n → arcs′ ≡ arcs
+  pub above : take (r * bytes) arcs′ ≡ take (r * bytes) arcs
+  pub up-to : free ≡ false → r < n → take (suc r * size) cells′ ≡ take (suc r * size) cells
+  pub long : length cells′ ≡ length cells

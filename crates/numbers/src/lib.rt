@@ -1,19 +1,24 @@
 // The numbers of all nodes of any arcs, into the cells; a round and the closing sweep, which drop the arcs that fail their test.
 ghost use mathlib.Core.Path.{_≡_};
-ghost use mathlib.Core.Bool.{true, not};
+ghost use mathlib.Core.Bool.{true};
+ghost use mathlib.Core.Logic.{_⊎_};
 ghost use mathlib.Core.List.{[], _∷_};
 ghost use mathlib.Core.Option.{some};
+ghost use Prim.Native.Nat.{_+_, _*_, _<_, _≤_};
 ghost use lib.ListN.{length, replicate};
 ghost use lib.IntN.{pos};
-ghost use Rattle.laws.specs.Lists.{same};
 ghost use Rattle.laws.specs.Z.{Within};
 ghost use Rattle.meaning.specs.Filter.{drops, within, swept, downNumbers, upNumbers};
 ghost use Rattle.meaning.specs.Buffers.{cellsNeed, nodeNeed, arcsIn, allCells};
 ghost use Rattle.problem.specs.Held.{campaignOf};
 ghost use Rattle.lent.specs.Wide.{laid};
 ghost use Rattle.lent.specs.Vec.{rowVec, testOf};
-ghost use Rattle.numbers.specs.Whole.{held, Ready, Bounding, limitLanes, Formed, halfCells};
+ghost use Rattle.slot.specs.Tables.{leastsIn, mostsIn, Tabled};
+ghost use Rattle.numbers.specs.Whole.{Ready, Bounding, limitLanes, Formed, halfCells, Standing, Fell};
 use lanes::FAR;
+use problem::Problem;
+use slot::LEASTS;
+use slot::MOSTS;
 
 // The row of a layer with one node, all of whose numbers are zero: the source going down, the sink going up.
 pub fn one_node(m: usize) -> [i32; 272]
@@ -25,15 +30,15 @@ pub fn one_node(m: usize) -> [i32; 272]
 }
 
 // The limit of a round: the bounds of the rules and the ceiling; the lanes that no rule has are out of reach.
-fn limit_of<'a>(m: usize, lbs: &'a [i32; 8], ubs: &'a [i32; 8], ceiling: i32) -> [i32; 17]
-    requires { ⌜ Bounding m (now lbs) (now ubs) ⌝ }
-    ensures { λ r. ⌜ r ≡ limitLanes m (now (lbs .entry)) (now (ubs .entry)) ceiling ⌝ }
+fn limit_of<'a>(m: usize, coefs: &'a [i32; 232], ceiling: i32) -> [i32; 17]
+    requires { ⌜ Bounding m (leastsIn (now coefs)) (mostsIn (now coefs)) × (length (now coefs) ≡ 232) ⌝ }
+    ensures { λ r. ⌜ r ≡ limitLanes m (leastsIn (now (coefs .entry))) (mostsIn (now (coefs .entry))) ceiling ⌝ }
 {
     let mut x = [2000000i32; 17];
     let mut r: usize = 0;
     while r < m {
-        let lb = lbs[r];
-        let ub = ubs[r];
+        let lb = coefs[LEASTS + r];
+        let ub = coefs[MOSTS + r];
         x[r] = ub;
         x[8 + r] = -lb;
         r += 1;
@@ -42,35 +47,32 @@ fn limit_of<'a>(m: usize, lbs: &'a [i32; 8], ubs: &'a [i32; 8], ceiling: i32) ->
     x
 }
 
-// The down numbers of all nodes, layer by layer, into the cells; the up numbers stand at zero there.
+// The down numbers of all nodes, layer by layer, into the cells; the up numbers stand at zero there. The layers up to `from` stand
+// already, unless it is the first.
 fn downs<'a>(
-    n: usize,
-    m: usize,
-    sets: &'a [u16; 24],
-    weights: &'a [i32; 24],
-    kinds: &'a [u8; 8],
-    values: &'a [u16; 8],
-    slots: &'a [u32; 8],
-    coefs: &'a [i32; 192],
-    lb: &'a [i32; 8],
-    ub: &'a [i32; 8],
+    p: Problem,
+    coefs: &'a [i32; 232],
+    values: &'a [u16; 216],
     w: usize,
+    from: usize,
     arcs: &[u8],
     cells: &mut [i32],
 )
-    requires { let p = held n m (now sets) (now weights) (now kinds) (now values) (now slots) (now coefs) (now lb) (now ub) in ⌜ Ready p w × Formed (campaignOf p) w (now arcs) × (length (now cells) ≡ cellsNeed (campaignOf p) w) × (length (now sets) ≡ 24) ⌝ }
-    ensures { λ r. let p = held n m (now (sets .entry)) (now (weights .entry)) (now (kinds .entry)) (now (values .entry)) (now (slots .entry)) (now (coefs .entry)) (now (lb .entry)) (now (ub .entry)) in ⌜ now (cells .exit) ≡ halfCells (campaignOf p) w (downNumbers (campaignOf p) (arcsIn (campaignOf p) w (now (arcs .entry)))) ⌝ }
+    requires { ⌜ Ready p w × Tabled p (now coefs) (now values) × Formed (campaignOf p) w (now arcs) × (length (now cells) ≡ cellsNeed (campaignOf p) w) × Standing (campaignOf p) w from (now arcs) (now cells) ⌝ }
+    ensures { λ r. ⌜ now (cells .exit) ≡ halfCells (campaignOf p) w (downNumbers (campaignOf p) (arcsIn (campaignOf p) w (now (arcs .entry)))) ⌝ }
 {
     let bytes = w * 8;
-    let size = w * (4 * m + 3);
-    let mut here = one_node(m);
+    let size = w * (4 * p.m + 3);
+    let mut here = one_node(p.m);
     let mut spare = [FAR; 272];
-    let mut row = [0i32; 136];
-    let mut i: usize = 0;
-    while i < n {
-        rows::put_downs(m, w, &here, &mut cells[i * size..i * size + size]);
-        let weight = weights[i];
-        slot::slot_row(m, i, weight, kinds, values, slots, coefs, &mut row);
+    let mut row = [0i32; 72];
+    if 0 < from {
+        rows::take_downs(p.m, w, &cells[from * size..from * size + size], &mut here);
+    }
+    let mut i = from;
+    while i < p.n {
+        rows::put_downs(p.m, w, &here, &mut cells[i * size..i * size + size]);
+        slot::slot_row(coefs, values, i, &mut row);
         rows::next_down(
             w,
             &row,
@@ -80,179 +82,102 @@ fn downs<'a>(
         );
         i += 1;
     }
-    rows::put_downs(m, w, &here, &mut cells[n * size..n * size + size]);
+    rows::put_downs(p.m, w, &here, &mut cells[p.n * size..p.n * size + size]);
 }
 
-// The up numbers of all nodes, the last layer first, beside the down numbers; the arcs that fail the test fall. Says whether one did.
+// The up numbers of all nodes, the last layer first; the arcs that fail the test fall. Gives the first layer that lost an arc, n if
+// none did. If none did, or the test is free, the up numbers stand beside the down numbers in the cells; else the cells up to that
+// layer are as they were.
 fn ups<'a>(
-    n: usize,
-    m: usize,
-    sets: &'a [u16; 24],
-    weights: &'a [i32; 24],
-    kinds: &'a [u8; 8],
-    values: &'a [u16; 8],
-    slots: &'a [u32; 8],
-    coefs: &'a [i32; 192],
-    lb: &'a [i32; 8],
-    ub: &'a [i32; 8],
+    p: Problem,
+    coefs: &'a [i32; 232],
+    values: &'a [u16; 216],
     w: usize,
     free: bool,
     ceiling: i32,
     arcs: &mut [u8],
     cells: &mut [i32],
-) -> bool
-    requires { let p = held n m (now sets) (now weights) (now kinds) (now values) (now slots) (now coefs) (now lb) (now ub) in ⌜ Ready p w × Within 2000000 ceiling × Formed (campaignOf p) w (now arcs) × (now cells ≡ halfCells (campaignOf p) w (downNumbers (campaignOf p) (arcsIn (campaignOf p) w (now arcs)))) × (length (now sets) ≡ 24) ⌝ }
-    ensures arcs { λ r. let p = held n m (now (sets .entry)) (now (weights .entry)) (now (kinds .entry)) (now (values .entry)) (now (slots .entry)) (now (coefs .entry)) (now (lb .entry)) (now (ub .entry)) in ⌜ now (arcs .exit) ≡ laid 8 w (drops (testOf free ceiling) (campaignOf p) (arcsIn (campaignOf p) w (now (arcs .entry)))) ⌝ }
-    ensures cells { λ r. let p = held n m (now (sets .entry)) (now (weights .entry)) (now (kinds .entry)) (now (values .entry)) (now (slots .entry)) (now (coefs .entry)) (now (lb .entry)) (now (ub .entry)) in ⌜ now (cells .exit) ≡ allCells (nodeNeed (campaignOf p)) w (downNumbers (campaignOf p) (arcsIn (campaignOf p) w (now (arcs .entry)))) (upNumbers (campaignOf p) (arcsIn (campaignOf p) w (now (arcs .entry)))) ⌝ }
-    ensures fell { λ r. ⌜ r ≡ not (same (now (arcs .entry)) (now (arcs .exit))) ⌝ }
+) -> usize
+    requires { ⌜ Ready p w × Tabled p (now coefs) (now values) × Within 2000000 ceiling × Formed (campaignOf p) w (now arcs) × (now cells ≡ halfCells (campaignOf p) w (downNumbers (campaignOf p) (arcsIn (campaignOf p) w (now arcs)))) ⌝ }
+    ensures arcs { λ r. ⌜ now (arcs .exit) ≡ laid 8 w (drops (testOf free ceiling) (campaignOf p) (arcsIn (campaignOf p) w (now (arcs .entry)))) ⌝ }
+    ensures cells { λ r. ⌜ ((free ≡ true) ⊎ (r ≡ p .n) → now (cells .exit) ≡ allCells (nodeNeed (campaignOf p)) w (downNumbers (campaignOf p) (arcsIn (campaignOf p) w (now (arcs .entry)))) (upNumbers (campaignOf p) (arcsIn (campaignOf p) w (now (arcs .entry))))) ⌝ }
+    ensures first { λ r. ⌜ Fell (p .n) (w * 8) (w * (4 * p .m + 3)) (now (arcs .entry)) (now (arcs .exit)) (now (cells .entry)) (now (cells .exit)) free r ⌝ }
 {
     let bytes = w * 8;
-    let size = w * (4 * m + 3);
-    let limit = limit_of(m, lb, ub, ceiling);
-    let mut next = one_node(m);
+    let size = w * (4 * p.m + 3);
+    let limit = limit_of(p.m, coefs, ceiling);
+    let mut next = one_node(p.m);
     let mut spare = [FAR; 272];
     let mut room = [FAR; 272];
-    let mut row = [0i32; 136];
-    rows::put_ups(m, w, &next, &mut cells[n * size..n * size + size]);
-    let mut fell = false;
-    let mut left = n;
+    let mut row = [0i32; 72];
+    rows::put_ups(p.m, w, &next, &mut cells[p.n * size..p.n * size + size]);
+    let mut first = p.n;
+    let mut left = p.n;
     while 0 < left {
         let i = left - 1;
-        let weight = weights[i];
-        slot::slot_row(m, i, weight, kinds, values, slots, coefs, &mut row);
+        slot::slot_row(coefs, values, i, &mut row);
         if rows::next_up(
-            m,
+            p.m,
             w,
             &row,
             &mut next,
             free,
+            first == p.n,
             &limit,
             &mut arcs[i * bytes..i * bytes + bytes],
             &mut cells[i * size..i * size + size],
             &mut spare,
             &mut room,
         ) {
-            fell = true;
+            first = i;
         }
         left -= 1;
     }
-    fell
+    first
 }
 
-// A round: all numbers from the arcs present at its start, then the failing arcs fall together. Says whether one did. The down
-// numbers may stand in the cells already.
+// A round: all numbers from the arcs present at its start, then the failing arcs fall together. Gives the first layer that lost an
+// arc, n if none did. The down numbers of the layers up to `from` stand in the cells already, unless it is the first layer; after it
+// those up to the layer that it gives, or all numbers.
 pub fn round<'a>(
-    n: usize,
-    m: usize,
-    sets: &'a [u16; 24],
-    weights: &'a [i32; 24],
-    kinds: &'a [u8; 8],
-    values: &'a [u16; 8],
-    slots: &'a [u32; 8],
-    coefs: &'a [i32; 192],
-    lb: &'a [i32; 8],
-    ub: &'a [i32; 8],
+    p: Problem,
+    coefs: &'a [i32; 232],
+    values: &'a [u16; 216],
     w: usize,
-    known: bool,
+    from: usize,
     ceiling: i32,
     arcs: &mut [u8],
     cells: &mut [i32],
-) -> bool
-    requires { let p = held n m (now sets) (now weights) (now kinds) (now values) (now slots) (now coefs) (now lb) (now ub) in ⌜ Ready p w × Within 2000000 ceiling × Formed (campaignOf p) w (now arcs) × (length (now cells) ≡ cellsNeed (campaignOf p) w) × (known ≡ true → now cells ≡ halfCells (campaignOf p) w (downNumbers (campaignOf p) (arcsIn (campaignOf p) w (now arcs)))) × (length (now sets) ≡ 24) ⌝ }
-    ensures arcs { λ r. let p = held n m (now (sets .entry)) (now (weights .entry)) (now (kinds .entry)) (now (values .entry)) (now (slots .entry)) (now (coefs .entry)) (now (lb .entry)) (now (ub .entry)) in ⌜ now (arcs .exit) ≡ laid 8 w (drops (within ceiling) (campaignOf p) (arcsIn (campaignOf p) w (now (arcs .entry)))) ⌝ }
-    ensures cells { λ r. let p = held n m (now (sets .entry)) (now (weights .entry)) (now (kinds .entry)) (now (values .entry)) (now (slots .entry)) (now (coefs .entry)) (now (lb .entry)) (now (ub .entry)) in ⌜ now (cells .exit) ≡ allCells (nodeNeed (campaignOf p)) w (downNumbers (campaignOf p) (arcsIn (campaignOf p) w (now (arcs .entry)))) (upNumbers (campaignOf p) (arcsIn (campaignOf p) w (now (arcs .entry)))) ⌝ }
-    ensures fell { λ r. ⌜ r ≡ not (same (now (arcs .entry)) (now (arcs .exit))) ⌝ }
+) -> usize
+    requires { ⌜ Ready p w × Tabled p (now coefs) (now values) × Within 2000000 ceiling × Formed (campaignOf p) w (now arcs) × (length (now cells) ≡ cellsNeed (campaignOf p) w) × Standing (campaignOf p) w from (now arcs) (now cells) ⌝ }
+    ensures arcs { λ r. ⌜ now (arcs .exit) ≡ laid 8 w (drops (within ceiling) (campaignOf p) (arcsIn (campaignOf p) w (now (arcs .entry)))) ⌝ }
+    ensures fixed { λ r. ⌜ (r ≡ p .n → (now (arcs .exit) ≡ now (arcs .entry)) × (now (cells .exit) ≡ allCells (nodeNeed (campaignOf p)) w (downNumbers (campaignOf p) (arcsIn (campaignOf p) w (now (arcs .entry)))) (upNumbers (campaignOf p) (arcsIn (campaignOf p) w (now (arcs .entry)))))) ⌝ }
+    ensures stands { λ r. ⌜ (r < p .n → Formed (campaignOf p) w (now (arcs .exit)) → Standing (campaignOf p) w r (now (arcs .exit)) (now (cells .exit))) ⌝ }
+    ensures long { λ r. ⌜ (r ≤ p .n) × (length (now (cells .exit)) ≡ cellsNeed (campaignOf p) w) ⌝ }
 {
-    if !known {
-        downs(
-            n,
-            m,
-            sets,
-            weights,
-            kinds,
-            values,
-            slots,
-            coefs,
-            lb,
-            ub,
-            w,
-            arcs,
-            cells,
-        );
+    if from < p.n {
+        downs(p, coefs, values, w, from, arcs, cells);
     }
-    ups(
-        n,
-        m,
-        sets,
-        weights,
-        kinds,
-        values,
-        slots,
-        coefs,
-        lb,
-        ub,
-        w,
-        false,
-        ceiling,
-        arcs,
-        cells,
-    )
+    ups(p, coefs, values, w, false, ceiling, arcs, cells)
 }
 
 // The closing sweep: every arc on no path falls; the cells hold the numbers, which the sweep changes for no node that is present.
-// The down numbers may stand there already.
+// The down numbers of the layers up to `from` stand there already, unless it is the first.
 pub fn sweep<'a>(
-    n: usize,
-    m: usize,
-    sets: &'a [u16; 24],
-    weights: &'a [i32; 24],
-    kinds: &'a [u8; 8],
-    values: &'a [u16; 8],
-    slots: &'a [u32; 8],
-    coefs: &'a [i32; 192],
-    lb: &'a [i32; 8],
-    ub: &'a [i32; 8],
+    p: Problem,
+    coefs: &'a [i32; 232],
+    values: &'a [u16; 216],
     w: usize,
-    known: bool,
+    from: usize,
     arcs: &mut [u8],
     cells: &mut [i32],
 )
-    requires { let p = held n m (now sets) (now weights) (now kinds) (now values) (now slots) (now coefs) (now lb) (now ub) in ⌜ Ready p w × Formed (campaignOf p) w (now arcs) × (length (now cells) ≡ cellsNeed (campaignOf p) w) × (known ≡ true → now cells ≡ halfCells (campaignOf p) w (downNumbers (campaignOf p) (arcsIn (campaignOf p) w (now arcs)))) × (length (now sets) ≡ 24) ⌝ }
-    ensures arcs { λ r. let p = held n m (now (sets .entry)) (now (weights .entry)) (now (kinds .entry)) (now (values .entry)) (now (slots .entry)) (now (coefs .entry)) (now (lb .entry)) (now (ub .entry)) in ⌜ now (arcs .exit) ≡ laid 8 w (swept (campaignOf p) (arcsIn (campaignOf p) w (now (arcs .entry)))) ⌝ }
-    ensures cells { λ r. let p = held n m (now (sets .entry)) (now (weights .entry)) (now (kinds .entry)) (now (values .entry)) (now (slots .entry)) (now (coefs .entry)) (now (lb .entry)) (now (ub .entry)) in ⌜ now (cells .exit) ≡ allCells (nodeNeed (campaignOf p)) w (downNumbers (campaignOf p) (arcsIn (campaignOf p) w (now (arcs .entry)))) (upNumbers (campaignOf p) (arcsIn (campaignOf p) w (now (arcs .entry)))) ⌝ }
+    requires { ⌜ Ready p w × Tabled p (now coefs) (now values) × Formed (campaignOf p) w (now arcs) × (length (now cells) ≡ cellsNeed (campaignOf p) w) × Standing (campaignOf p) w from (now arcs) (now cells) ⌝ }
+    ensures arcs { λ r. ⌜ now (arcs .exit) ≡ laid 8 w (swept (campaignOf p) (arcsIn (campaignOf p) w (now (arcs .entry)))) ⌝ }
+    ensures cells { λ r. ⌜ now (cells .exit) ≡ allCells (nodeNeed (campaignOf p)) w (downNumbers (campaignOf p) (arcsIn (campaignOf p) w (now (arcs .entry)))) (upNumbers (campaignOf p) (arcsIn (campaignOf p) w (now (arcs .entry)))) ⌝ }
 {
-    if !known {
-        downs(
-            n,
-            m,
-            sets,
-            weights,
-            kinds,
-            values,
-            slots,
-            coefs,
-            lb,
-            ub,
-            w,
-            arcs,
-            cells,
-        );
+    if from < p.n {
+        downs(p, coefs, values, w, from, arcs, cells);
     }
-    ups(
-        n,
-        m,
-        sets,
-        weights,
-        kinds,
-        values,
-        slots,
-        coefs,
-        lb,
-        ub,
-        w,
-        true,
-        0,
-        arcs,
-        cells,
-    );
+    ups(p, coefs, values, w, true, 0, arcs, cells);
 }

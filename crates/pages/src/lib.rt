@@ -55,7 +55,10 @@ pub fn page(
     if page.len() < n {
         return refusal(11);
     }
-    let b = diagram::relaxed(p, width, rounds, ceiling, arcs, cells);
+    let mut coefs = [0i32; 232];
+    let mut values = [0u16; 216];
+    slot::put_parts(p, &mut coefs, &mut values);
+    let b = diagram::relaxed_by(p, &coefs, &values, width, rounds, ceiling, arcs, cells);
     if b.number != 0 {
         return refusal(b.number);
     }
@@ -64,6 +67,8 @@ pub fn page(
     let numbers = diagram::cells_need(n, p.m, w);
     let l = walk::list(
         p,
+        &coefs,
+        &values,
         w,
         ceiling,
         start,

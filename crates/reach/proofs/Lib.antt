@@ -1,5 +1,5 @@
 -- Why the table of reaches holds them.
-pub mod Bare
+pub mod Steps
 pub mod Spans
 pub mod Table
 pub mod Turn

@@ -13,7 +13,7 @@ use Rattle.laws.specs.Lists.{keep, from}
 use Rattle.laws.proofs.Lists.{and-r}
 use Rattle.laws.proofs.Each.{Each}
 use Rattle.meaning.specs.Plan.{bit, allows, stepsOf}
-use Rattle.lent.specs.Lanes.{lanesAt, leasts}
+use Rattle.lent.specs.Lanes.{leasts}
 use Rattle.lent.specs.Passes.{nowhere}
 use Rattle.reach.specs.Spans.{leastMore, leastOver}
 
@@ -64,13 +64,13 @@ abbrev ahead : ℕ → ℕ → List ℕ
 ahead set v = keep (bit set) (from v (8 - v))
 
 -- the steps before v are in s
-pub record Spanned (row : List ℤ) (set v : ℕ) (s : List ℤ) : Type 0 where
+pub record Spanned (lanes : ℕ → List ℤ) (set v : ℕ) (s : List ℤ) : Type 0 where
   pub low : v ≤ 8
-  pub is : leastMore row s (ahead set v) ≡ leastMore row nowhere (stepsOf 8 set)
+  pub is : leastMore lanes s (ahead set v) ≡ leastMore lanes nowhere (stepsOf 8 set)
 
 -- none is
-pub span-start : (row : List ℤ) (set : ℕ) → Spanned row set 0 nowhere
-span-start row set = record { low = omega arith; is = refl }
+pub span-start : (lanes : ℕ → List ℤ) (set : ℕ) → Spanned lanes set 0 nowhere
+span-start lanes set = record { low = omega arith; is = refl }
 
 -- the step's bit is what `allows` says
 step-bit : (set v : ℕ) (t : Bool) → v < 8 → allows 8 set v ≡ t → bit set v ≡ t
@@ -83,22 +83,22 @@ next set v t h e =
     let o : 8 - v ≡ suc (8 - (v + 1)) = omega arith in
     ap (λ n. keep (bit set) (from v n)) o ∙ rw (step-bit set v t h e, add-one) refl
 
-module _ {row : List ℤ} {set v : ℕ} {s : List ℤ} (p : Spanned row set v s) where
+module _ {lanes : ℕ → List ℤ} {set v : ℕ} {s : List ℤ} (p : Spanned lanes set v s) where
   -- a step of the set
-  pub span-yes : v < 8 → allows 8 set v ≡ true → (u : List ℤ) → u ≡ leasts s (lanesAt row (v * 17)) → Spanned row set (v + 1) u
-  span-yes h e u f = record { low = omega arith; is = ap (λ z. leastMore row z (ahead set (v + 1))) f ∙ sym (ap (leastMore row s) (next set v true h e)) ∙ p .is }
+  pub span-yes : v < 8 → allows 8 set v ≡ true → (u : List ℤ) → u ≡ leasts s (lanes v) → Spanned lanes set (v + 1) u
+  span-yes h e u f = record { low = omega arith; is = ap (λ z. leastMore lanes z (ahead set (v + 1))) f ∙ sym (ap (leastMore lanes s) (next set v true h e)) ∙ p .is }
 
   -- a step that it has not
-  pub span-no : v < 8 → allows 8 set v ≡ false → (u : List ℤ) → u ≡ s → Spanned row set (v + 1) u
-  span-no h e u f = record { low = omega arith; is = (λ d. leastMore row (f d) (sym (next set v false h e) d)) ∙ p .is }
+  pub span-no : v < 8 → allows 8 set v ≡ false → (u : List ℤ) → u ≡ s → Spanned lanes set (v + 1) u
+  span-no h e u f = record { low = omega arith; is = (λ d. leastMore lanes (f d) (sym (next set v false h e) d)) ∙ p .is }
 
   -- all are, where it has one
-  pub span-end : 8 ≤ v → (set % 256 ≡ 0 → ⊥) → s ≡ leastOver row (stepsOf 8 set)
-  span-end h some = go (stepsOf 8 set) (λ e. some (steps-none set e)) (ap (leastMore row s) (sym none-left) ∙ p .is)
+  pub span-end : 8 ≤ v → (set % 256 ≡ 0 → ⊥) → s ≡ leastOver lanes (stepsOf 8 set)
+  span-end h some = go (stepsOf 8 set) (λ e. some (steps-none set e)) (ap (leastMore lanes s) (sym none-left) ∙ p .is)
     where
       none-left : ahead set v ≡ []
       none-left = let o : 8 - v ≡ 0 = omega arith in rw o refl
 
-      go : (vs : List ℕ) → (vs ≡ [] → ⊥) → s ≡ leastMore row nowhere vs → s ≡ leastOver row vs
+      go : (vs : List ℕ) → (vs ≡ [] → ⊥) → s ≡ leastMore lanes nowhere vs → s ≡ leastOver lanes vs
       go [] f k = absurd (f refl)
       go (w ∷ vs) f k = k

@@ -9,21 +9,23 @@ use lib.ListN.{length, take, drop, replicate, length-map, length-append, length-
 use lib.Seq.{paste, take-take, take-at, drop-drop, drop-paste, length-paste}
 use lib.IntN.{ℤ, pos, negℤ, _+ℤ_}
 use lib.Signed.{leZ}
-use Rattle.laws.specs.Z.{minZ, Within, widen, sum-within}
+use Rattle.laws.specs.Z.{Within, widen, sum-within}
 use Rattle.laws.specs.Lists.{from, padded}
 use Rattle.laws.proofs.Lists.{map-same}
 use Rattle.laws.proofs.Each.{Each, each-more, each-map, each-keep, each-from}
 use Rattle.laws.proofs.Filled.{length-padded}
 use Rattle.meaning.specs.Plan.{Rule, Campaign, slots, bit, stepsOf}
 use Rattle.meaning.specs.Diagram.{Pair, State, merged, mergedState, span, reach, reaches}
+use Rattle.meaning.specs.Filter.{Numbers}
 use Rattle.meaning.proofs.Sizes.{larger, either}
 use Rattle.lent.specs.Lanes.{lanesAt, sums, leasts}
 use Rattle.lent.specs.Passes.{nowhere}
-use Rattle.lent.specs.Vec.{lanesOf, vec, slotVec}
+use Rattle.lent.specs.Vec.{vec}
+use Rattle.lent.specs.Vec as vecs
 use Rattle.lent.specs.Small.{Small, FitPair, FitSome}
 use Rattle.lent.proofs.Lanes.{zipped-block, neg-sum}
 use Rattle.lent.proofs.Scatter.{min-assoc, max-assoc}
-use Rattle.lent.proofs.Vec.{length-vec, length-lows, length-highs, some-within, slot-at, leasts-meet}
+use Rattle.lent.proofs.Vec.{length-vec, length-lows, length-highs, some-within, turned-padded, leasts-meet}
 use Rattle.lent.proofs.Fit.{meet-fit}
 use Rattle.lent.proofs.Cells.{zeros-vec}
 use Rattle.lanes.proofs.Laws.{lanes-pasted}
@@ -32,11 +34,12 @@ use Rattle.state.proofs.Sizes.{inside-more}
 use Rattle.state.proofs.Rows.{pairs-of}
 use Rattle.state.proofs.Joined.{noPair, add}
 use Rattle.state.proofs.Padded.{shareOf, inside-padded}
-use Rattle.reach.specs.Spans.{leastMore, leastOver, Reached}
+use Rattle.slot.specs.Rows.{lanesOf}
+use Rattle.reach.specs.Spans.{stepLanes, leastMore, leastOver, Reached}
 
 -- ---- the pairs that stand in lanes
 -- what f makes of a list that is filled up
-map-padded : {A B : Type 0} (f : A → B) (n : ℕ) (d : A) (l : List A) → map f (padded n d l) ≡ padded n (f d) (map f l)
+pub map-padded : {A B : Type 0} (f : A → B) (n : ℕ) (d : A) (l : List A) → map f (padded n d l) ≡ padded n (f d) (map f l)
 map-padded f zero d l = refl
 map-padded {B = B} f (suc n) d [] = ap (λ (r : List B). f d ∷ r) (map-padded f n d [])
 map-padded {B = B} f (suc n) d (x ∷ l) = ap (λ (r : List B). f x ∷ r) (map-padded f n d l)
@@ -73,33 +76,11 @@ joins-span : (z : ℤ) (zs : List ℤ) → joins (z, z) zs ≡ span (z ∷ zs)
 joins-span z [] = refl
 joins-span z (y ∷ ys) = joins-merged (z, z) (y, y) ys ∙ ap (merged (z, z)) (joins-span y ys)
 
--- ---- the lane of costs, which nobody reads
--- the least of a number and some more
-abbrev leastOf : ℤ → List ℤ → ℤ
-leastOf z [] = z
-leastOf z (y ∷ ys) = leastOf (minZ z y) ys
-
--- the least of some prices; of none it is zero
-abbrev leastPrice : List ℤ → ℤ
-leastPrice [] = pos 0
-leastPrice (z ∷ zs) = leastOf z zs
-
--- of each slot from i on, added up
-abbrev prices : Campaign → ℕ → List ℕ → ℤ
-prices q i [] = pos 0
-prices q i (s ∷ ss) = leastPrice (map (q .price i) (stepsOf 8 s)) +ℤ prices q (suc i) ss
-
--- they stay small
-least-within : (m : ℕ) (z : ℤ) (zs : List ℤ) → Within m z → Each (Within m) zs → Within m (leastOf z zs)
-least-within m z [] h k = h
-least-within m z (y ∷ ys) h k = least-within m (minZ z y) ys (either (leZ z y) h (k .0)) (k .1)
-
--- the least of small prices is small
-price-within : (m : ℕ) (zs : List ℤ) → Each (Within m) zs → Within m (leastPrice zs)
-price-within m [] h = record { size = omega arith }
-price-within m (z ∷ zs) h = least-within m z zs (h .0) (h .1)
-
 -- ---- all rules
+-- the lanes of some pairs; nobody reads that of costs, and it is zero
+abbrev pub pairVec : State → List ℤ
+pairVec t = vec (some (t, pos 0))
+
 -- merged rule by rule
 merged-maps : (g h : Rule → Pair) (rs : List Rule) → mergedState (map g rs) (map h rs) ≡ map (λ r. merged (g r) (h r)) rs
 merged-maps g h [] = refl
@@ -116,13 +97,13 @@ high-sums : (g h : Rule → Pair) (rs : List Rule)
 high-sums g h [] = refl
 high-sums g h (r ∷ rs) = λ d. sym (neg-sum (g r .1) (h r .1)) d ∷ high-sums g h rs d
 
--- lanes add up as the pairs and the costs do
-vec-sums : (g h : Rule → Pair) (c d : ℤ) (rs : List Rule) → sums (vec (some (map g rs, c))) (vec (some (map h rs, d))) ≡ vec (some (map (λ r. add (g r) (h r)) rs, c +ℤ d))
-vec-sums g h c d rs =
+-- lanes without a cost add up as the pairs do
+vec-sums : (g h : Rule → Pair) (rs : List Rule) → sums (pairVec (map g rs)) (pairVec (map h rs)) ≡ pairVec (map (λ r. add (g r) (h r)) rs)
+vec-sums g h rs =
     let s = map g rs in
     let t = map h rs in
     let long : length s ≡ length t = length-map rs g ∙ sym (length-map rs h) in
-    zipped-block _+ℤ_ (pos 0) (pos 0) (map (λ p. p .0) s) (map (λ p. p .0) t) (map negℤ (map (λ p. p .1) s)) (map negℤ (map (λ p. p .1) t)) c d
+    zipped-block _+ℤ_ (pos 0) (pos 0) (map (λ p. p .0) s) (map (λ p. p .0) t) (map negℤ (map (λ p. p .1) s)) (map negℤ (map (λ p. p .1) t)) (pos 0) (pos 0)
     (length-lows s ∙ long ∙ sym (length-lows t)) (length-highs s ∙ long ∙ sym (length-highs t))
     ∙ rw (low-sums g h rs, high-sums g h rs)
 
@@ -149,94 +130,93 @@ rule-within r f i (s ∷ ss) =
     (larger wide (sum-within (here .0) (rest .0)), larger wide (sum-within (here .1) (rest .1)))
 
 -- ---- the numbers of slot i
--- a step's shares and price
-abbrev pub stepOf : Campaign → ℕ → ℕ → State × ℤ
-stepOf q i v = (map (shareOf i v) (q .rules), q .price i v)
+-- a step's shares
+abbrev pub stepOf : Campaign → ℕ → ℕ → State
+stepOf q i v = map (shareOf i v) (q .rules)
 
--- the spans over some steps, and their least price
-abbrev spansOf : Campaign → ℕ → List ℕ → State × ℤ
-spansOf q i vs = (map (λ r. span (map (r .share i) vs)) (q .rules), leastPrice (map (q .price i) vs))
+-- the spans over some steps
+abbrev spansOf : Campaign → ℕ → List ℕ → State
+spansOf q i vs = map (λ r. span (map (r .share i) vs)) (q .rules)
 
 -- the reach from slot i on, as lanes
 abbrev pub reachVec : Campaign → ℕ → List ℕ → List ℤ
-reachVec q i ss = vec (some (reaches q i ss, prices q i ss))
+reachVec q i ss = pairVec (reaches q i ss)
+
+-- a step's lanes have each rule's share
+pub step-lanes : (q : Campaign) (i v : ℕ) (cs : List ℤ) (bs : List ℕ) → lanesOf cs bs v ≡ padded 8 (pos 0) (map (λ r. r .share i v) (q .rules)) → stepLanes cs bs v ≡ pairVec (stepOf q i v)
+step-lanes q i v cs bs e =
+    let shares = map (λ (r : Rule). r .share i v) (q .rules) in
+    (λ d. e d ++ (ap (map negℤ) e ∙ turned-padded 8 shares) d ++ (pos 0 ∷ []))
+    ∙ (λ d. vecs.lanesOf (pos 0) (sym (map-map (λ p. p .0) (shareOf i v) (q .rules)) d) (sym (map-map (λ p. p .1) (shareOf i v) (q .rules)) d) (pos 0))
 
 module _ (q : Campaign) (small : Small q) where
   module _ (i : ℕ) where
-    -- a step's lanes have each rule's share
-    pub step-lanes : (v : ℕ) → v < 8 → lanesAt (slotVec q i) (v * 17) ≡ vec (some (stepOf q i v))
-    step-lanes v h =
-        slot-at q small i v h
-        ∙ (λ d. lanesOf (pos 0) (sym (map-map (λ p. p .0) (shareOf i v) (q .rules)) d) (sym (map-map (λ p. p .1) (shareOf i v) (q .rules)) d) (q .price i v))
-
     -- small enough for lanes
-    step-fit : (v : ℕ) → v < 8 → FitSome q 1 (stepOf q i v)
+    step-fit : (v : ℕ) → v < 8 → FitSome q 1 (stepOf q i v, pos 0)
     step-fit v h = record {
       long = length-map (q .rules) (shareOf i v);
       pairs = each-map (λ r. (i v : ℕ) → v < 8 → Within 7000 (r .share i v)) (FitPair 1) (shareOf i v) (λ r f. (f i v h, f i v h)) (q .rules) (small .shares);
-      cost = small .prices i v h;
+      cost = record { size = omega arith };
     }
 
-    -- some steps more
-    least-more : (g : Rule → Pair) (c : ℤ) (vs : List ℕ) → Each (λ v. v < 8) vs → FitSome q 1 (map g (q .rules), c)
-        → leastMore (slotVec q i) (vec (some (map g (q .rules), c))) vs ≡ vec (some (map (λ r. joins (g r) (map (r .share i) vs)) (q .rules), leastOf c (map (q .price i) vs)))
-    least-more g c [] h f = refl
-    least-more g c (v ∷ vs) h f =
-        let d = q .price i v in
-        let both = merged-maps g (shareOf i v) (q .rules) in
-        ap (λ t. leastMore (slotVec q i) (leasts (vec (some (map g (q .rules), c))) t) vs) (step-lanes v (h .0))
-        ∙ ap (λ t. leastMore (slotVec q i) t vs) (leasts-meet q 1 (omega arith) (some (map g (q .rules), c)) (some (stepOf q i v)) f (step-fit v (h .0)))
-        ∙ ap (λ t. leastMore (slotVec q i) (vec (some (t, minZ c d))) vs) both
-        ∙ least-more (λ r. merged (g r) (shareOf i v r)) (minZ c d) vs (h .1) (subst (λ t. FitSome q 1 (t, minZ c d)) both (meet-fit q 1 (some (map g (q .rules), c)) (some (stepOf q i v)) f (step-fit v (h .0))))
-
-    -- the least over some steps has each rule's span
-    span-lanes : (vs : List ℕ) → Each (λ v. v < 8) vs → leastOver (slotVec q i) vs ≡ vec (some (spansOf q i vs))
-    span-lanes [] h = sym (zeros-vec q)
-    span-lanes (v ∷ vs) h =
-        ap (λ t. leastMore (slotVec q i) (leasts nowhere t) vs) (step-lanes v (h .0))
-        ∙ ap (λ t. leastMore (slotVec q i) t vs) (leasts-meet q 1 (omega arith) none (some (stepOf q i v)) tt (step-fit v (h .0)))
-        ∙ least-more (shareOf i v) (q .price i v) vs (h .1) (step-fit v (h .0))
-        ∙ ap (λ t. vec (some (t, leastOf (q .price i v) (map (q .price i) vs)))) (map-same (λ r. joins (shareOf i v r) (map (r .share i) vs)) (λ r. span (map (r .share i) (v ∷ vs))) (q .rules) (λ r b. joins-span (r .share i v) (map (r .share i) vs)))
-
     -- small enough for lanes
-    span-fit : (vs : List ℕ) → Each (λ v. v < 8) vs → FitSome q 1 (spansOf q i vs)
+    span-fit : (vs : List ℕ) → Each (λ v. v < 8) vs → FitSome q 1 (spansOf q i vs, pos 0)
     span-fit vs h = record {
       long = length-map (q .rules) (λ r. span (map (r .share i) vs));
       pairs = each-map (λ r. (i v : ℕ) → v < 8 → Within 7000 (r .share i v)) (FitPair 1) (λ r. span (map (r .share i) vs)) (λ r f. span-within 7000 (map (r .share i) vs) (each-map (λ v. v < 8) (Within 7000) (r .share i) (f i) vs h)) (q .rules) (small .shares);
-      cost = price-within 70000 (map (q .price i) vs) (each-map (λ v. v < 8) (Within 70000) (q .price i) (small .prices i) vs h);
+      cost = record { size = omega arith };
     }
 
-    -- small enough to be summed
-    pub span-small : (s : ℕ) → Each (Within 10000000) (leastOver (slotVec q i) (stepsOf 8 s))
-    span-small s =
-        let vs = stepsOf 8 s in
-        rw (span-lanes vs (low-steps s)) (each-more (Within 70000) (Within 10000000) (λ z w. widen tt w) (vec (some (spansOf q i vs))) (some-within q 1 (spansOf q i vs) (span-fit vs (low-steps s))))
+    -- by whatever lanes have the shares of each step
+    module _ (lanes : ℕ → List ℤ) (are : (v : ℕ) → lanes v ≡ pairVec (stepOf q i v)) where
+      -- some steps more
+      least-more : (g : Rule → Pair) (vs : List ℕ) → Each (λ v. v < 8) vs → FitSome q 1 (map g (q .rules), pos 0)
+          → leastMore lanes (pairVec (map g (q .rules))) vs ≡ pairVec (map (λ r. joins (g r) (map (r .share i) vs)) (q .rules))
+      least-more g [] h f = refl
+      least-more g (v ∷ vs) h f =
+          let both = merged-maps g (shareOf i v) (q .rules) in
+          let old : Numbers = some (map g (q .rules), pos 0) in
+          let new : Numbers = some (stepOf q i v, pos 0) in
+          ap (λ t. leastMore lanes (leasts (vec old) t) vs) (are v)
+          ∙ ap (λ t. leastMore lanes t vs) (leasts-meet q 1 (omega arith) old new f (step-fit v (h .0)))
+          ∙ ap (λ t. leastMore lanes (pairVec t) vs) both
+          ∙ least-more (λ r. merged (g r) (shareOf i v r)) vs (h .1) (subst (λ t. FitSome q 1 (t, pos 0)) both (meet-fit q 1 old new f (step-fit v (h .0))))
 
-    -- a slot's span and the reach behind it are the reach
-    pub reach-step : (s : ℕ) (ss : List ℕ) → sums (leastOver (slotVec q i) (stepsOf 8 s)) (reachVec q (suc i) ss) ≡ reachVec q i (s ∷ ss)
-    reach-step s ss =
-        let vs = stepsOf 8 s in
-        let h : Rule → Pair = λ r. reach (q .steps) r (suc i) ss in
-        ap (λ t. sums t (reachVec q (suc i) ss)) (span-lanes vs (low-steps s))
-        ∙ vec-sums (λ r. span (map (r .share i) vs)) h (leastPrice (map (q .price i) vs)) (prices q (suc i) ss) (q .rules)
-        ∙ ap (λ k. vec (some (map (λ r. add (span (map (r .share i) (stepsOf k s))) (h r)) (q .rules), prices q i (s ∷ ss)))) (sym (small .steps))
+      -- the least over some steps has each rule's span
+      span-lanes : (vs : List ℕ) → Each (λ v. v < 8) vs → leastOver lanes vs ≡ pairVec (spansOf q i vs)
+      span-lanes [] h = sym (zeros-vec q)
+      span-lanes (v ∷ vs) h =
+          ap (λ t. leastMore lanes (leasts nowhere t) vs) (are v)
+          ∙ ap (λ t. leastMore lanes t vs) (leasts-meet q 1 (omega arith) none (some (stepOf q i v, pos 0)) tt (step-fit v (h .0)))
+          ∙ least-more (shareOf i v) vs (h .1) (step-fit v (h .0))
+          ∙ ap pairVec (map-same (λ r. joins (shareOf i v r) (map (r .share i) vs)) (λ r. span (map (r .share i) (v ∷ vs))) (q .rules) (λ r b. joins-span (r .share i v) (map (r .share i) vs)))
 
-  -- the costs of a reach
-  prices-within : (i : ℕ) (ss : List ℕ) → Within (70000 * length ss) (prices q i ss)
-  prices-within i [] = record { size = omega arith }
-  prices-within i (s ∷ ss) = larger (omega arith) (sum-within (span-fit i (stepsOf 8 s) (low-steps s) .cost) (prices-within (suc i) ss))
+      -- small enough to be summed
+      pub span-small : (s : ℕ) → Each (Within 10000000) (leastOver lanes (stepsOf 8 s))
+      span-small s =
+          let vs = stepsOf 8 s in
+          rw (span-lanes vs (low-steps s)) (each-more (Within 70000) (Within 10000000) (λ z w. widen tt w) (pairVec (spansOf q i vs)) (some-within q 1 (spansOf q i vs, pos 0) (span-fit vs (low-steps s))))
+
+      -- a slot's span and the reach behind it are the reach
+      pub reach-step : (s : ℕ) (ss : List ℕ) → sums (leastOver lanes (stepsOf 8 s)) (reachVec q (suc i) ss) ≡ reachVec q i (s ∷ ss)
+      reach-step s ss =
+          let vs = stepsOf 8 s in
+          let h : Rule → Pair = λ r. reach (q .steps) r (suc i) ss in
+          ap (λ t. sums t (reachVec q (suc i) ss)) (span-lanes vs (low-steps s))
+          ∙ vec-sums (λ r. span (map (r .share i) vs)) h (q .rules)
+          ∙ ap (λ k. pairVec (map (λ r. add (span (map (r .share i) (stepsOf k s))) (h r)) (q .rules))) (sym (small .steps))
 
   -- the numbers of a reach
-  reaches-fit : (i : ℕ) (ss : List ℕ) → FitSome q (length ss) (reaches q i ss, prices q i ss)
+  reaches-fit : (i : ℕ) (ss : List ℕ) → FitSome q (length ss) (reaches q i ss, pos 0)
   reaches-fit i ss = record {
     long = length-map (q .rules) (λ r. reach (q .steps) r i ss);
     pairs = rw (small .steps) (each-map (λ r. (i v : ℕ) → v < 8 → Within 7000 (r .share i v)) (FitPair (length ss)) (λ r. reach 8 r i ss) (λ r f. rule-within r f i ss) (q .rules) (small .shares));
-    cost = prices-within i ss;
+    cost = record { size = omega arith };
   }
 
   -- small enough to be summed
   pub reach-small : (i : ℕ) (ss : List ℕ) → length ss ≤ 24 → Each (Within 10000000) (reachVec q i ss)
-  reach-small i ss h = each-more (Within (70000 * length ss)) (Within 10000000) (λ z w. larger (omega arith) w) (reachVec q i ss) (some-within q (length ss) (reaches q i ss, prices q i ss) (reaches-fit i ss))
+  reach-small i ss h = each-more (Within (70000 * length ss)) (Within 10000000) (λ z w. larger (omega arith) w) (reachVec q i ss) (some-within q (length ss) (reaches q i ss, pos 0) (reaches-fit i ss))
 
   -- as eight pairs
   reaches-inside : (i : ℕ) (ss : List ℕ) → length ss ≤ 24 → Inside 200000 (padded 8 noPair (reaches q i ss))
@@ -263,7 +243,7 @@ module _ (q : Campaign) (small : Small q) where
   }
     where
       wide : length x ≡ 17
-      wide = ap length e ∙ length-vec (some (reaches q i (drop i (q .sets)), prices q i (drop i (q .sets))))
+      wide = ap length e ∙ length-vec (some (reaches q i (drop i (q .sets)), pos 0))
 
       other : (j : ℕ) → i < j → drop (j * 17) table′ ≡ drop (j * 17) table
       other j l =
@@ -283,4 +263,4 @@ module _ (q : Campaign) (small : Small q) where
   behind-all table p = record { long = p .long; is = pairs; small = λ i b. rw (pairs i b) (reaches-inside q small i (drop i (q .sets)) (omega (arith, length-drop i (q .sets), small .slots))) }
     where
       pairs : (i : ℕ) → i ≤ slots q → pairsAt table (i * 17) ≡ padded 8 noPair (reaches q i (drop i (q .sets)))
-      pairs i b = let ss = drop i (q .sets) in lanes-pairs table (i * 17) (reaches q i ss) (prices q i ss) (p .is i (omega arith) b)
+      pairs i b = let ss = drop i (q .sets) in lanes-pairs table (i * 17) (reaches q i ss) (pos 0) (p .is i (omega arith) b)

@@ -1,23 +1,24 @@
 -- What has a loop over the rules stored in a node's cells at each turn, and which down numbers stand in them already?
 use mathlib.Core.Path.{_≡_, refl, sym, ap, _∙_, subst}
-use mathlib.Core.Bool.{Bool, true, false, _||_}
+use mathlib.Core.Bool.{Bool, true, false, _||_, cond}
 use mathlib.Core.List.{List, [], _∷_, _++_, map, append-nil}
 use Prim.Native.Nat.{ℕ, suc, _+_, _*_, _≤_, _<_}
 use native.Mathlib.Omega.{arith}
 use lib.Dec.{T, leb}
-use lib.ListN.{length, getD, set, drop, replicate, length-append, length-drop, drop-of-length-le, getD-replicate}
+use lib.ListN.{length, getD, set, drop, replicate, length-map, length-append, length-drop, drop-of-length-le, getD-replicate, List·getD-eq-default}
 use lib.Seq.{set-getD, getD-drop, getD-append-add}
 use lib.IntN.{ℤ, pos, negℤ, _-ℤ_}
 use mir.Syntax.{w32}
 use mir.Val.{SFits}
-use Rattle.laws.specs.Z.{zarith, dif, neg, parts, eqZ, Within, widen, fits32, back, back-is}
+use Rattle.laws.specs.Z.{zarith, dif, neg, eqZ, Within, widen, fits32, back, back-is}
 use Rattle.laws.specs.Lists.{gather, from, padded}
 use Rattle.laws.proofs.Lists.{length-from, cond-first, cond-second, from-more}
 use Rattle.laws.proofs.Filled.{length-rows, gather-more}
 use Rattle.lent.specs.Passes.{far, nowhere, nodeLanes, downLanes, HalfNode}
 use Rattle.lent.proofs.Places.{made-at}
-use Rattle.lent.proofs.Lanes.{block-low, block-high, block-cost, neg-neg}
+use Rattle.lent.proofs.Lanes.{length-block, block-low, block-high, block-cost, neg-neg}
 use Rattle.lent.proofs.Whole.{node-long}
+use Rattle.lanes.proofs.Laws.{turned-within, Halved, halved-more}
 use Rattle.rows.proofs.Laid.{laid-on}
 
 -- ---- a number with its sign turned, as the code has it
@@ -25,14 +26,11 @@ module _ {z : ℤ} {m : ℕ} (h : Within m z) (t : T (leb m 2147483647)) where
   minus : pos 0 -ℤ back z ≡ negℤ z
   minus = rw (back-is h t) (omega (zarith, dif (pos 0) z, neg z))
 
-  within-neg : Within m (negℤ z)
-  within-neg = record { size = omega (arith, h .size, parts z, parts (negℤ z), neg z) }
-
   pub turn-fits : SFits w32 (pos 0 -ℤ back z)
-  turn-fits = rw minus (fits32 (widen t within-neg))
+  turn-fits = rw minus (fits32 (widen t (turned-within h)))
 
   pub turned : back (pos 0 -ℤ back z) ≡ negℤ z
-  turned = rw minus (back-is within-neg t)
+  turned = rw minus (back-is (turned-within h) t)
 
 -- ---- the numbers of rules stored in cells: c is what they hold after r rules
 abbrev pub ruleOf : List ℤ → List ℤ → ℕ → List ℤ
@@ -146,6 +144,13 @@ lows c r = padded 8 (pos 0) (map (low c) (from 0 r))
 abbrev pub highs : List ℤ → ℕ → List ℤ
 highs c r = padded 8 (pos 0) (map (high c) (from 0 r))
 
+pub down-long : (m : ℕ) (c : List ℤ) → length (downLanes m c) ≡ 17
+down-long m c = go (eqZ (getD c 0 (pos 0)) (pos 0))
+  where
+    go : (t : Bool) → length (cond t nowhere (lows c m ++ highs c m ++ (getD c (4 * m + 1) (pos 0) ∷ []))) ≡ 17
+    go true = refl
+    go false = length-block (pos 0) (map (low c) (from 0 m)) (map (high c) (from 0 m)) (getD c (4 * m + 1) (pos 0))
+
 -- a node that is there
 module _ (m : ℕ) (c : List ℤ) (there : eqZ (getD c 0 (pos 0)) (pos 0) ≡ false) where
   pub down-is : downLanes m c ≡ lows c m ++ highs c m ++ (getD c (4 * m + 1) (pos 0) ∷ [])
@@ -163,6 +168,31 @@ module _ (m : ℕ) (c : List ℤ) (there : eqZ (getD c 0 (pos 0)) (pos 0) ≡ fa
 
   pub down-cost : getD c (4 * m + 1) (pos 0) ≡ getD (downLanes m c) 16 (pos 0)
   down-cost = sym (ap (λ l. getD l 16 (pos 0)) down-is ∙ block-cost (pos 0) (map (low c) (from 0 m)) (map (high c) (from 0 m)) (getD c (4 * m + 1) (pos 0)) (pos 0))
+
+  -- rules that a problem lacks stand at zero
+  module _ (few : m ≤ 8) where
+    behind : (f : ℕ → ℤ) (j : ℕ) → m ≤ j → getD (map f (from 0 m)) j (pos 0) ≡ pos 0
+    behind f j h = List·getD-eq-default (map f (from 0 m)) (pos 0) {n = j} (omega (arith, length-map (from 0 m) f, length-from 0 m))
+
+    down-rest : (j : ℕ) → m ≤ j → j < 8 → (getD (downLanes m c) j (pos 0) ≡ pos 0) × (getD (downLanes m c) (8 + j) (pos 0) ≡ pos 0)
+    down-rest j h b = (
+      ap (λ l. getD l j (pos 0)) down-is ∙ block-low (pos 0) (map (low c) (from 0 m)) (map (high c) (from 0 m)) (getD c (4 * m + 1) (pos 0)) j b ∙ behind (low c) j h,
+      ap (λ l. getD l (8 + j) (pos 0)) down-is ∙ block-high (pos 0) (map (low c) (from 0 m)) (map (high c) (from 0 m)) (getD c (4 * m + 1) (pos 0)) j b ∙ behind (high c) j h,
+    )
+
+    -- a loop over the rules lays them over zeros
+    pub down-start : Halved (downLanes m c) (replicate 17 (pos 0)) m 0
+    down-start = record {
+      long = down-long m c;
+      wide = refl;
+      few = few;
+      done = omega arith;
+      first = λ j b. absurd (omega arith);
+      rest = λ j h b. (getD-replicate 17 j (pos 0) (pos 0) (omega arith) ∙ sym (down-rest j h b .0), getD-replicate 17 (8 + j) (pos 0) (pos 0) (omega arith) ∙ sym (down-rest j h b .1));
+    }
+
+    pub down-more : {x : List ℤ} {r : ℕ} {a b : ℤ} → Halved (downLanes m c) x m r → r < m → a ≡ getD c (4 * r + 1) (pos 0) → b ≡ negℤ (getD c (4 * r + 2) (pos 0)) → Halved (downLanes m c) (set (set x r a) (8 + r) b) m (r + 1)
+    down-more {r = r} l h ea eb = halved-more l h (ea ∙ down-low r few h) (eb ∙ ap negℤ (down-high r few h) ∙ neg-neg (getD (downLanes m c) (8 + r) (pos 0)))
 
 -- ---- cells that hold down numbers only
 module _ (m : ℕ) (c : List ℤ) (half : HalfNode m c) where

@@ -12,12 +12,13 @@ use Rattle.laws.specs.Z.{minZ, Within}
 use Rattle.laws.specs.Lists.{parted}
 use Rattle.laws.proofs.Each.{Each, each-append, each-map, each-take, each-drop}
 use Rattle.meaning.specs.Diagram.{State, mergedState}
-use Rattle.lent.specs.Lanes.{lanesAt, sums, leasts}
+use Rattle.lent.specs.Lanes.{lanesAt, arcAt, sums, leasts}
 use Rattle.lent.specs.Passes.{Slot, Row, Spare, Bytes, far, bring, bringNode, bringLayer}
 use Rattle.lent.proofs.Lanes.{zipped-append}
-use Rattle.state.specs.Pairs.{Inside, added, pairsAt, unpaired}
+use Rattle.state.specs.Pairs.{Inside, added, pairsAt, sharesAt, unpaired}
 use Rattle.state.proofs.Sizes.{neg-size, added-length, merged-length}
-use Rattle.state.proofs.Rows.{unpaired-length, unpaired-added, unpaired-merged, pairs-length, pairs-lanes}
+use Rattle.state.proofs.Rows.{unpaired-length, unpaired-merged, pairs-length, pairs-lanes}
+use Rattle.state.proofs.Steps.{shares-length, arc-lanes}
 use Rattle.rows.proofs.Laid.{parted-next, part-is}
 use Rattle.lanes.proofs.Laws.{length-lanes}
 use Rattle.rows.proofs.Lanes.{each-lanes}
@@ -44,13 +45,10 @@ lanes-split row at h =
     take-suc (drop at row) 16 (pos 0) (omega (arith, length-drop at row))
     ∙ (λ i. sym (pairs-lanes row at (omega arith)) i ++ (getD-drop at row 16 (pos 0) i ∷ []))
 
--- added and merged with others
+-- merged with others
 module _ (a b : State) (c d : ℤ) (e : length a ≡ length b) where
   wide : length (unpaired a) ≡ length (unpaired b)
   wide = omega (arith, unpaired-length a, unpaired-length b)
-
-  lanes-added : sums (lanesOf a c) (lanesOf b d) ≡ lanesOf (added a b) (c +ℤ d)
-  lanes-added = zipped-append _+ℤ_ (unpaired a) (unpaired b) (c ∷ []) (d ∷ []) wide ∙ ap (λ l. l ++ (c +ℤ d) ∷ []) (sym (unpaired-added a b e))
 
   lanes-merged : leasts (lanesOf a c) (lanesOf b d) ≡ lanesOf (mergedState a b) (minZ c d)
   lanes-merged = zipped-append minZ (unpaired a) (unpaired b) (c ∷ []) (d ∷ []) wide ∙ ap (λ l. l ++ minZ c d ∷ []) (sym (unpaired-merged a b e))
@@ -98,30 +96,29 @@ module _ {row x next₀ next : List ℤ} {bs : List ℕ} {v : ℕ} (l : Brought 
 -- an arc of a node with state x and cost c: s, t, m, one and z are what the turn reads and reckons
 module _ (x : State) (c : ℤ) {row next₀ next : List ℤ} {bs : List ℕ} {v : ℕ} (l : Brought row (lanesOf x c) bs next₀ next v) (wide : length bs ≡ 8) where
   pub brought-arc : {s t m : State} {one : List ℤ} {z : ℤ} → v < 8 → (getD bs v 0 ≡ 0 → ⊥) → getD bs v 0 ≤ 16 → Slot row → length x ≡ 8 → Each (Within 4000000) (lanesOf x c)
-      → s ≡ pairsAt next ((getD bs v 0 - 1) * 17) → t ≡ added x (pairsAt row (v * 17)) → m ≡ mergedState s t → one ≡ paste next ((getD bs v 0 - 1) * 17) (unpaired m) 16
-      → z ≡ minZ (getD one ((getD bs v 0 - 1) * 17 + 16) (pos 0)) (c +ℤ getD row (v * 17 + 16) (pos 0)) → Brought row (lanesOf x c) bs next₀ (set one ((getD bs v 0 - 1) * 17 + 16) z) (v + 1)
+      → s ≡ pairsAt next ((getD bs v 0 - 1) * 17) → t ≡ added x (sharesAt row v) → m ≡ mergedState s t → one ≡ paste next ((getD bs v 0 - 1) * 17) (unpaired m) 16
+      → z ≡ minZ (getD one ((getD bs v 0 - 1) * 17 + 16) (pos 0)) (c +ℤ getD row (64 + v) (pos 0)) → Brought row (lanesOf x c) bs next₀ (set one ((getD bs v 0 - 1) * 17 + 16) z) (v + 1)
   brought-arc {s} {t} {m} {one} {z} h there low slot long inside es et em eo ez =
       let at = (getD bs v 0 - 1) * 17 in
       let room : at + 17 ≤ length next = omega (arith, l .spare .long) in
-      let step : v * 17 + 17 ≤ length row = omega (arith, slot .long) in
+      let steps : 64 ≤ length row = omega (arith, slot .long) in
       let old = pairsAt next at in
-      let share = pairsAt row (v * 17) in
-      let n : length x ≡ length share = long ∙ sym (pairs-length row (v * 17) (omega arith)) in
+      let share = sharesAt row v in
+      let n : length x ≡ length share = long ∙ sym (shares-length row v h steps) in
       let k : length old ≡ length (added x share) = pairs-length next at (omega arith) ∙ sym (added-length x share n ∙ long) in
       let new = mergedState old (added x share) in
       let is : m ≡ new = em ∙ (λ i. mergedState (es i) (et i)) in
       let lanes : length (unpaired new) ≡ 16 = omega (arith, unpaired-length new, merged-length old (added x share) k, pairs-length next at (omega arith)) in
       let laid : one ≡ paste next at (unpaired new) 16 = eo ∙ ap (λ y. paste next at (unpaired y) 16) is in
-      let cost = minZ (getD next (at + 16) (pos 0)) (c +ℤ getD row (v * 17 + 16) (pos 0)) in
-      let least : z ≡ cost = ez ∙ ap (λ y. minZ y (c +ℤ getD row (v * 17 + 16) (pos 0))) (ap (λ y. getD y (at + 16) (pos 0)) laid ∙ behind next at (unpaired new) lanes room) in
-      let all : leasts (lanesAt next at) (sums (lanesOf x c) (lanesAt row (v * 17))) ≡ lanesOf new cost =
-      (λ i. leasts (lanes-split next at room i) (sums (lanesOf x c) (lanes-split row (v * 17) step i)))
-      ∙ ap (leasts (lanesOf old (getD next (at + 16) (pos 0)))) (lanes-added x share c (getD row (v * 17 + 16) (pos 0)) n)
-      ∙ lanes-merged old (added x share) (getD next (at + 16) (pos 0)) (c +ℤ getD row (v * 17 + 16) (pos 0)) k in
+      let cost = minZ (getD next (at + 16) (pos 0)) (c +ℤ getD row (64 + v) (pos 0)) in
+      let least : z ≡ cost = ez ∙ ap (λ y. minZ y (c +ℤ getD row (64 + v) (pos 0))) (ap (λ y. getD y (at + 16) (pos 0)) laid ∙ behind next at (unpaired new) lanes room) in
+      let all : leasts (lanesAt next at) (sums (lanesOf x c) (arcAt row v)) ≡ lanesOf new cost =
+      (λ i. leasts (lanes-split next at room i) (sym (arc-lanes row v h steps x c long) i))
+      ∙ lanes-merged old (added x share) (getD next (at + 16) (pos 0)) (c +ℤ getD row (64 + v) (pos 0)) k in
       let put : set one (at + 16) z ≡ paste next at (lanesOf new cost) 17 = (λ i. set (laid i) (at + 16) (least i)) ∙ costs next at (unpaired new) lanes room cost in
       more l wide h (put ∙ arc (getD bs v 0) there (sym all)) (bring-spare row (lanesOf x c) slot (lanes-long x c long) inside v (getD bs v 0) next h low (l .spare))
     where
-      arc : (b : ℕ) → (b ≡ 0 → ⊥) → {y : List ℤ} → y ≡ leasts (lanesAt next ((b - 1) * 17)) (sums (lanesOf x c) (lanesAt row (v * 17))) → paste next ((b - 1) * 17) y 17 ≡ bring row (lanesOf x c) v b next
+      arc : (b : ℕ) → (b ≡ 0 → ⊥) → {y : List ℤ} → y ≡ leasts (lanesAt next ((b - 1) * 17)) (sums (lanesOf x c) (arcAt row v)) → paste next ((b - 1) * 17) y 17 ≡ bring row (lanesOf x c) v b next
       arc zero f q = absurd (f refl)
       arc (suc k) f q =
           let o : suc k - 1 ≡ k = omega arith in

@@ -13,11 +13,10 @@ use Rattle.laws.specs.Lists.{from, padded}
 use Rattle.laws.proofs.Lists.{length-from, from-more}
 use Rattle.laws.proofs.Filled.{length-padded, padded-more}
 use Rattle.lent.specs.Lanes.{zipped}
-use Rattle.lent.specs.Passes.{nowhere, downLanes, roomLanes}
-use Rattle.lent.proofs.Lanes.{block, length-block}
+use Rattle.lent.specs.Passes.{downLanes, roomLanes}
 use Rattle.lanes.proofs.Laws.{length-zipped}
 use Rattle.rows.proofs.Laid.{Copied, copied-end}
-use Rattle.rows.proofs.Cells.{low, high, lows, highs, down-is}
+use Rattle.rows.proofs.Cells.{low, high, lows, highs, down-long, down-is}
 
 -- ---- places below r, and one more
 module _ {A : Type 0} where
@@ -136,17 +135,10 @@ module _ (m : ℕ) (free : Bool) (limit c : List ℤ) where
   pub room-long : length limit ≡ 17 → length (roomLanes m free limit c) ≡ 17
   room-long wide = go (eqZ (getD c 0 (pos 0)) (pos 0)) free
     where
-      down-long : length (downLanes m c) ≡ 17
-      down-long = down (eqZ (getD c 0 (pos 0)) (pos 0))
-        where
-          down : (t : Bool) → length (cond t nowhere (block (pos 0) (map (low c) (from 0 m)) (map (high c) (from 0 m)) (getD c (4 * m + 1) (pos 0)))) ≡ 17
-          down true = refl
-          down false = length-block (pos 0) (map (low c) (from 0 m)) (map (high c) (from 0 m)) (getD c (4 * m + 1) (pos 0))
-
       go : (s t : Bool) → length (cond s (replicate 17 (negℤ (pos 4000000))) (cond t (replicate 17 (pos 4000000)) (zipped _-ℤ_ limit (downLanes m c)))) ≡ 17
       go true t = refl
       go false true = refl
-      go false false = length-zipped _-ℤ_ limit (downLanes m c) (wide ∙ sym down-long) ∙ wide
+      go false false = length-zipped _-ℤ_ limit (downLanes m c) (wide ∙ sym (down-long m c)) ∙ wide
 
   pub room-none : eqZ (getD c 0 (pos 0)) (pos 0) ≡ true → replicate 17 (negℤ (pos 4000000)) ≡ roomLanes m free limit c
   room-none e = sym (rw e refl)

@@ -10,10 +10,10 @@ use lib.IntN.{ℤ, pos, _+ℤ_}
 use Rattle.laws.specs.Z.{minZ, Within}
 use Rattle.laws.specs.Lists.{parted}
 use Rattle.laws.proofs.Each.{Each, each-append, each-more, each-take, each-drop}
-use Rattle.lent.specs.Lanes.{lanesAt, sums, leasts}
+use Rattle.lent.specs.Lanes.{lanesAt, arcAt, sums, leasts}
 use Rattle.lent.specs.Passes.{Slot, Row, Spare, Bytes, far, bring, bringNode, bringLayer}
 use Rattle.lent.proofs.Whole.{parted-count}
-use Rattle.lanes.proofs.Laws.{length-lanes, length-zipped, each-sums, each-leasts}
+use Rattle.lanes.proofs.Laws.{length-lanes, length-arc, length-zipped, each-arc, each-sums, each-leasts}
 use Rattle.rows.proofs.Lanes.{each-lanes, each-replicate}
 use Rattle.rows.proofs.Layers.{parted-each}
 
@@ -21,14 +21,14 @@ use Rattle.rows.proofs.Layers.{parted-each}
 module _ (row x : List ℤ) (slot : Slot row) (wide : length x ≡ 17) (inside : Each (Within 4000000) x) where
   -- what comes to place k of a row
   abbrev comes : List ℤ → ℕ → ℕ → List ℤ
-  comes next v k = leasts (lanesAt next (k * 17)) (sums x (lanesAt row (v * 17)))
+  comes next v k = leasts (lanesAt next (k * 17)) (sums x (arcAt row v))
 
   comes-long : (next : List ℤ) (v k : ℕ) → v < 8 → k * 17 + 17 ≤ length next → length (comes next v k) ≡ 17
   comes-long next v k h room =
       let y = length-lanes next (k * 17) room in
-      let s = length-lanes row (v * 17) (omega (arith, slot .long)) in
-      let z = length-zipped _+ℤ_ x (lanesAt row (v * 17)) (wide ∙ sym s) ∙ wide in
-      length-zipped minZ (lanesAt next (k * 17)) (sums x (lanesAt row (v * 17))) (y ∙ sym z) ∙ y
+      let s = length-arc row v (slot .long) h in
+      let z = length-zipped _+ℤ_ x (arcAt row v) (wide ∙ sym s) ∙ wide in
+      length-zipped minZ (lanesAt next (k * 17)) (sums x (arcAt row v)) (y ∙ sym z) ∙ y
 
   bring-long : (v b : ℕ) (next : List ℤ) → v < 8 → b * 17 ≤ length next → length (bring row x v b next) ≡ length next
   bring-long v zero next h l = refl
@@ -38,9 +38,9 @@ module _ (row x : List ℤ) (slot : Slot row) (wide : length x ≡ 17) (inside :
   bring-spare v zero next h l s = s
   bring-spare v (suc k) next h l s =
       let at = k * 17 in
-      let sum = each-sums 4000000 4000000 x (lanesAt row (v * 17)) inside (each-lanes row (v * 17) (slot .inside)) in
+      let sum = each-sums 4000000 4000000 x (arcAt row v) inside (each-arc 4000000 row v (slot .inside)) in
       let old = each-take (Within 8000000) 17 (drop at next) (each-drop (Within 8000000) at next (s .inside)) in
-      let new = each-leasts (Within 8000000) (lanesAt next at) (sums x (lanesAt row (v * 17))) old sum in
+      let new = each-leasts (Within 8000000) (lanesAt next at) (sums x (arcAt row v)) old sum in
       record {
         long = bring-long v (suc k) next h (omega (arith, s .long)) ∙ s .long;
         inside = each-append (Within 8000000) (take at next ++ take 17 (comes next v k)) (drop (at + 17) next)
@@ -60,7 +60,7 @@ module _ (row x : List ℤ) (slot : Slot row) (wide : length x ≡ 17) (inside :
         let at = k * 17 in
         let lanes : lanesAt (a ++ rest) at ≡ lanesAt a at = ap (take 17) (drop-append-le at a rest (omega arith)) ∙ take-append-le 17 (drop at a) rest (omega (arith, length-drop at a)) in
         let new = take 17 (comes a v k) in
-        (λ i. take-append-le at a rest (omega arith) i ++ take 17 (leasts (lanes i) (sums x (lanesAt row (v * 17)))) ++ drop-append-le (at + 17) a rest (omega arith) i)
+        (λ i. take-append-le at a rest (omega arith) i ++ take 17 (leasts (lanes i) (sums x (arcAt row v))) ++ drop-append-le (at + 17) a rest (omega arith) i)
         ∙ sym (append-assoc (take at a ++ new) (drop (at + 17) a) rest)
 
     node-front : (w v : ℕ) (bs : List ℕ) (a : List ℤ) → v + length bs ≤ 8 → Each (λ b. b ≤ w) bs → length a ≡ w * 17

@@ -87,16 +87,20 @@ module _ {A : Type 0} {n w : ℕ} {rest : ℕ → List A} {d : List A} where
     laying-part = part-is (j * n) n c ∙ ap (take n) (l .left)
 
     -- y comes there, which is x
-    pub laying-more : {y : List A} (x : List A) → j < w → y ≡ x → length x ≡ n → rest j ≡ x ++ rest (j + 1) → Laying n w rest d (put c (j * n) n y) (j + 1)
-    laying-more x h same e next =
-        let room : w * n ≤ length c = omega (arith, l .room, l .long) in
-        rw (same, put-pastes c x (j * n) n e) (record {
-          done = omega arith;
-          room = l .room;
-          long = pasted-long c x w n j h room e ∙ l .long;
-          left = pasted-rest c x w n j h room e ∙ rw (next-place j n, ← drop-drop n (j * n) c, ← drop-drop n (j * n) d) (ap (drop n) (l .left));
-          is = ap (λ r. r ++ rest (j + 1)) (pasted-first c x w n j h room e) ∙ append-assoc (take (j * n) c) x (rest (j + 1)) ∙ ap (λ r. take (j * n) c ++ r) (sym next) ∙ l .is;
-        })
+    module _ {y : List A} (x : List A) (h : j < w) (same : y ≡ x) (e : length x ≡ n) (next : rest j ≡ x ++ rest (j + 1)) where
+      pub laying-paste : Laying n w rest d (paste c (j * n) y n) (j + 1)
+      laying-paste =
+          let room : w * n ≤ length c = omega (arith, l .room, l .long) in
+          rw same (record {
+            done = omega arith;
+            room = l .room;
+            long = pasted-long c x w n j h room e ∙ l .long;
+            left = pasted-rest c x w n j h room e ∙ rw (next-place j n, ← drop-drop n (j * n) c, ← drop-drop n (j * n) d) (ap (drop n) (l .left));
+            is = ap (λ r. r ++ rest (j + 1)) (pasted-first c x w n j h room e) ∙ append-assoc (take (j * n) c) x (rest (j + 1)) ∙ ap (λ r. take (j * n) c ++ r) (sym next) ∙ l .is;
+          })
+
+      pub laying-more : Laying n w rest d (put c (j * n) n y) (j + 1)
+      laying-more = rw (put-pastes c y (j * n) n (ap length same ∙ e)) laying-paste
 
     pub laying-end : w ≤ j → rest w ≡ [] → c ≡ rest 0 ++ drop (w * n) d
     laying-end h none =

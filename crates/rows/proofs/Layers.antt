@@ -5,14 +5,14 @@ use Prim.Native.Nat.{ℕ, zero, suc, _+_, _-_, _*_, _<_}
 use native.Mathlib.Nat.{zero-mul, suc-mul}
 use native.Mathlib.Numerals.{add-one}
 use native.Mathlib.Omega.{arith}
-use lib.ListN.{length, take, drop, length-append, length-drop}
-use lib.Seq.{length-take-le, take-at, drop-at}
-use lib.IntN.{ℤ}
+use lib.ListN.{length, take, drop, replicate, length-append, length-drop, replicate-append-replicate}
+use lib.Seq.{length-take-le, take-at, take-add, drop-at, drop-drop}
+use lib.IntN.{ℤ, pos}
 use Rattle.laws.specs.Lists.{flat, from, parted}
 use Rattle.laws.proofs.Each.{Each, each-below, each-take, each-drop}
 use Rattle.laws.proofs.Filled.{take-within, getD-parted}
 use Rattle.lent.specs.Lanes.{lanesAt}
-use Rattle.lent.specs.Passes.{nodeLanes, downLanes, downCells, upCells, testNode, testLayer}
+use Rattle.lent.specs.Passes.{nowhere, nodeLanes, downLanes, downCells, upCells, testNode, testLayer}
 use Rattle.lent.proofs.Whole.{parted-count}
 use Rattle.rows.proofs.Laid.{place-in, parted-next}
 
@@ -69,6 +69,51 @@ module _ {A B : Type 0} (f : List A → List B) (w n : ℕ) (l : List A) where
 
   pub made-all : made 0 ≡ flat (map f (parted w n l))
   made-all = ap (λ p. flat (map f p)) (left-all w n l)
+
+-- ---- the nodes that are cleared, and those that are copied
+module _ (w : ℕ) where
+  behind-next : (j n : ℕ) → j < w → (w - j) * n ≡ n + (w - (j + 1)) * n
+  behind-next j n h =
+      let o : w - j ≡ suc (w - (j + 1)) = omega arith in
+      rw o (suc-mul (w - (j + 1)) n ∙ omega arith)
+
+  none-left : (n : ℕ) → (w - w) * n ≡ 0
+  none-left n =
+      let o : w - w ≡ 0 = omega arith in
+      rw o (zero-mul n)
+
+  all-left : (n : ℕ) → (w - 0) * n ≡ w * n
+  all-left n =
+      let o : w - 0 ≡ w = omega arith in
+      rw o refl
+
+  abbrev pub clearLeft : ℕ → List ℤ
+  clearLeft j = replicate ((w - j) * 17) (pos 4000000)
+
+  pub clear-next : (j : ℕ) → j < w → clearLeft j ≡ nowhere ++ clearLeft (j + 1)
+  clear-next j h = ap (λ k. replicate k (pos 4000000)) (behind-next j 17 h) ∙ sym (replicate-append-replicate 17 ((w - (j + 1)) * 17) (pos 4000000))
+
+  pub clear-none : clearLeft w ≡ []
+  clear-none = ap (λ k. replicate k (pos 4000000)) (none-left 17)
+
+  pub clear-all : clearLeft 0 ≡ replicate (w * 17) (pos 4000000)
+  clear-all = ap (λ k. replicate k (pos 4000000)) (all-left 17)
+
+  module _ (l : List ℤ) where
+    abbrev pub copyLeft : ℕ → List ℤ
+    copyLeft j = take ((w - j) * 17) (drop (j * 17) l)
+
+    pub copy-next : (j : ℕ) → j < w → copyLeft j ≡ lanesAt l (j * 17) ++ copyLeft (j + 1)
+    copy-next j h =
+        let place : (j + 1) * 17 ≡ j * 17 + 17 = omega arith in
+        ap (λ k. take k (drop (j * 17) l)) (behind-next j 17 h) ∙ take-add 17 ((w - (j + 1)) * 17) (drop (j * 17) l)
+        ∙ ap (λ r. lanesAt l (j * 17) ++ take ((w - (j + 1)) * 17) r) (drop-drop 17 (j * 17) l ∙ ap (λ k. drop k l) (sym place))
+
+    pub copy-none : copyLeft w ≡ []
+    copy-none = ap (λ k. take k (drop (w * 17) l)) (none-left 17)
+
+    pub copy-all : copyLeft 0 ≡ take (w * 17) l
+    copy-all = ap (λ k. take k l) (all-left 17)
 
 -- ---- down
 module _ (m w : ℕ) (here : List ℤ) where

@@ -14,17 +14,17 @@ use Rattle.laws.specs.Z.{minZ, Within, widen}
 use Rattle.laws.specs.Lists.{flat, same}
 use Rattle.laws.proofs.Lists.{and-true, and-false}
 use Rattle.laws.proofs.Each.{Each, each-append, each-more}
-use Rattle.lent.specs.Lanes.{lanesAt, leasts, atMost}
+use Rattle.lent.specs.Lanes.{lanesAt, arcAt, leasts, atMost}
 use Rattle.lent.specs.Passes.{Bytes, far, nowhere, arcLanes, raise, raiseNode, raiseLayer, testByte, testNode}
-use Rattle.lanes.proofs.Laws.{length-lanes, length-zipped, each-sums, each-leasts}
+use Rattle.lanes.proofs.Laws.{length-lanes, length-arc, length-zipped, each-arc, each-sums, each-leasts}
 use Rattle.rows.proofs.Lanes.{each-replicate, each-lanes, byte-at}
 
 -- ---- how great up numbers are
 module _ (row next : List ℤ) (low : Each (Within 4000000) row) (far-low : Each (Within 4000000) next) where
-  each-arc : (v k : ℕ) → Each (Within 10000000) (arcLanes row next v k)
-  each-arc v k =
+  each-brought : (v k : ℕ) → Each (Within 10000000) (arcLanes row next v k)
+  each-brought v k =
       each-more (Within 8000000) (Within 10000000) (λ z h. widen tt h) (arcLanes row next v k)
-      (each-sums 4000000 4000000 (lanesAt next (k * 17)) (lanesAt row (v * 17)) (each-lanes next (k * 17) far-low) (each-lanes row (v * 17) low))
+      (each-sums 4000000 4000000 (lanesAt next (k * 17)) (arcAt row v) (each-lanes next (k * 17) far-low) (each-arc 4000000 row v low))
 
   each-raise : (v : ℕ) (bs : List ℕ) (up : List ℤ) → Each (Within 10000000) up → Each (Within 10000000) (raiseNode row next v bs up)
   each-raise v [] up h = h
@@ -33,7 +33,7 @@ module _ (row next : List ℤ) (low : Each (Within 4000000) row) (far-low : Each
     where
       go : (t : Bool) → Each (Within 10000000) (cond t up (leasts up (arcLanes row next v k)))
       go true = h
-      go false = each-leasts (Within 10000000) up (arcLanes row next v k) h (each-arc v k)
+      go false = each-leasts (Within 10000000) up (arcLanes row next v k) h (each-brought v k)
 
   each-up : (bs : List ℕ) → Each (Within 10000000) (raiseNode row next 0 bs nowhere)
   each-up bs = each-raise 0 bs nowhere (each-replicate (Within 10000000) 17 (record { size = omega arith }))
@@ -43,7 +43,7 @@ module _ (row next : List ℤ) (low : Each (Within 4000000) row) (far-low : Each
   each-layer (bs ∷ l) = each-append (Within 10000000) (raiseNode row next 0 bs nowhere) (flat (raiseLayer row next l)) (each-up bs) (each-layer l)
 
 -- ---- up numbers have 17 lanes
-module _ (row next : List ℤ) (slot : length row ≡ 136) (wide : length next ≡ 272) where
+module _ (row next : List ℤ) (slot : length row ≡ 72) (wide : length next ≡ 272) where
   raise-long : (v : ℕ) (bs : List ℕ) (up : List ℤ) → v + length bs ≤ 8 → Bytes bs → length up ≡ 17 → length (raiseNode row next v bs up) ≡ 17
   raise-long v [] up h b e = e
   raise-long v (zero ∷ bs) up h b e = raise-long (suc v) bs up (omega arith) (b .1) e
@@ -52,8 +52,8 @@ module _ (row next : List ℤ) (slot : length row ≡ 136) (wide : length next �
       arc : length (arcLanes row next v k) ≡ 17
       arc =
           let y = length-lanes next (k * 17) (omega (arith, b .0)) in
-          let s = length-lanes row (v * 17) (omega arith) in
-          length-zipped _+ℤ_ (lanesAt next (k * 17)) (lanesAt row (v * 17)) (y ∙ sym s) ∙ y
+          let s = length-arc row v slot (omega arith) in
+          length-zipped _+ℤ_ (lanesAt next (k * 17)) (arcAt row v) (y ∙ sym s) ∙ y
 
       go : (t : Bool) → length (cond t up (leasts up (arcLanes row next v k))) ≡ 17
       go true = e

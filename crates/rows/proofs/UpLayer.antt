@@ -13,7 +13,7 @@ use Rattle.laws.proofs.Each.{Each, each-of, each-more, each-map}
 use Rattle.lent.specs.Lanes.{lanesAt}
 use Rattle.lent.specs.Passes.{Slot, Row, Bytes, nowhere, raiseNode, raiseLayer, testNode, testLayer, nodeLanes, downLanes, roomLanes, upCells, layerCells}
 use Rattle.lent.proofs.Whole.{parted-count}
-use Rattle.rows.proofs.Laid.{part-long, put, put-pastes, pasted-first, first-next, Laying, laying-start, laying-part, laying-more, laying-end, laying-all}
+use Rattle.rows.proofs.Laid.{part-long, put, put-pastes, pasted-first, first-next, Laying, laying-start, laying-part, laying-paste, laying-more, laying-end, laying-all}
 use Rattle.rows.proofs.Free.{room-long}
 use Rattle.rows.proofs.Layers.{parted-each, length-flat, parted-back, made, made-next, made-none, made-all, testsLeft, tests-next, tests-none, tests-all}
 use Rattle.rows.proofs.Up.{each-layer, rises-long, same-append, length-test}
@@ -66,7 +66,7 @@ module _ {w j : ℕ} {row next room : List ℤ} {arcs₀ arcs : List ℕ} {here�
       let both : same (take (j * 8) arcs₀ ++ part) (take (j * 8) arcs ++ bs) ≡ (same (take (j * 8) arcs₀) (take (j * 8) arcs) && same part bs) =
       same-append (take (j * 8) arcs₀) (take (j * 8) arcs) part bs (length-take-le (j * 8) arcs₀ (omega (arith, s .bytes .room)) ∙ sym (length-take-le (j * 8) arcs (omega arith))) in
       record {
-        rows = rw (ehere ∙ sym (put-pastes here up (j * 17) 17 lu)) (laying-more (s .rows) (rises row next part) h up-is (ap length (sym up-is) ∙ lu) (made-next (rises row next) w 8 arcs₀ j h));
+        rows = rw ehere (laying-paste (s .rows) (rises row next part) h up-is (ap length (sym up-is) ∙ lu) (made-next (rises row next) w 8 arcs₀ j h));
         bytes = laying-more (s .bytes) (testNode row next (lanesAt room (j * 17)) 0 part) h bs-is lt (tests-next w row next arcs₀ room j h);
         falls = ef ∙ (λ i. s .falls i || (ehit ∙ ap (λ l. not (same l bs)) same-part) i) ∙ not-and (same (take (j * 8) arcs₀) (take (j * 8) arcs)) (same part bs) ∙ ap not (sym both) ∙ (λ i. not (same (sym first-arcs i) (sym first-bytes i)));
       }

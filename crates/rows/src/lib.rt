@@ -1,7 +1,7 @@
 // One layer's numbers from its neighbour's, along any arcs: down to the layer below, up from it with the test of each arc, and a node's cells.
 ghost use mathlib.Core.Path.{_≡_};
 ghost use mathlib.Core.List.{[], _∷_, _++_, map};
-ghost use mathlib.Core.Bool.{true, cond, not};
+ghost use mathlib.Core.Bool.{true, cond, not, _&&_, _||_};
 ghost use Prim.Native.Nat.{_+_, _*_, _-_, _≤_};
 ghost use lib.ListN.{length, take, drop, replicate};
 ghost use lib.IntN.{pos};
@@ -25,9 +25,9 @@ fn bring_node(row: &[i32], x: State, cost: i32, arcs: &[u8], next: &mut [i32])
         if b != 0 {
             let to = (b - 1) * LANES;
             let s = state::taken(next, to);
-            let t = state::child(x, row, v * LANES);
+            let t = state::child(x, row, v);
             state::laid(next, to, state::merged(s, t));
-            next[to + 16] = lanes::lesser(next[to + 16], cost + row[v * LANES + 16]);
+            next[to + 16] = lanes::lesser(next[to + 16], cost + row[64 + v]);
         }
         v += 1;
     }
@@ -54,11 +54,10 @@ fn blank(w: usize, row: &mut [i32])
     requires { ⌜ w * 17 ≤ length (now row) ⌝ }
     ensures { λ r. ⌜ now (row .exit) ≡ replicate (w * 17) (pos 4000000) ++ drop (w * 17) (now (row .entry)) ⌝ }
 {
-    let end = w * LANES;
-    let mut k: usize = 0;
-    while k < end {
-        row[k] = FAR;
-        k += 1;
+    let mut j: usize = 0;
+    while j < w {
+        lanes::put_lanes(row, j * LANES, [FAR; 17]);
+        j += 1;
     }
 }
 
@@ -67,12 +66,10 @@ fn copy(w: usize, from: &[i32], to: &mut [i32])
     requires { ⌜ (w * 17 ≤ length (now from)) × (w * 17 ≤ length (now to)) ⌝ }
     ensures { λ r. ⌜ now (to .exit) ≡ take (w * 17) (now (from .entry)) ++ drop (w * 17) (now (to .entry)) ⌝ }
 {
-    let end = w * LANES;
-    let mut k: usize = 0;
-    while k < end {
-        let z = from[k];
-        to[k] = z;
-        k += 1;
+    let mut j: usize = 0;
+    while j < w {
+        lanes::put_lanes(to, j * LANES, lanes::lanes_at(from, j * LANES));
+        j += 1;
     }
 }
 
@@ -148,6 +145,45 @@ pub fn put_downs(m: usize, w: usize, here: &[i32], cells: &mut [i32])
             m,
             &here[j * LANES..j * LANES + LANES],
             &mut cells[j * size..j * size + size],
+        );
+        j += 1;
+    }
+}
+
+// The lanes of a node's down numbers from its cells.
+fn lanes_down(m: usize, cells: &[i32]) -> [i32; 17]
+    requires { ⌜ (m ≤ 8) × (length (now cells) ≡ 4 * m + 3) × Each (Within 4000000) (now cells) ⌝ }
+    ensures { λ r. ⌜ r ≡ downLanes m (now (cells .entry)) ⌝ }
+{
+    if cells[0] == 0 {
+        return [FAR; 17];
+    }
+    let mut x = [0i32; 17];
+    let mut r: usize = 0;
+    while r < m {
+        let low = cells[4 * r + 1];
+        let high = cells[4 * r + 2];
+        x[r] = low;
+        x[8 + r] = -high;
+        r += 1;
+    }
+    let cost = cells[4 * m + 1];
+    x[16] = cost;
+    x
+}
+
+// A layer's row of down numbers from its cells.
+pub fn take_downs(m: usize, w: usize, cells: &[i32], here: &mut [i32])
+    requires { ⌜ (m ≤ 8) × (w ≤ 16) × (length (now cells) ≡ w * (4 * m + 3)) × Each (Within 4000000) (now cells) × (length (now here) ≡ 272) ⌝ }
+    ensures { λ r. ⌜ now (here .exit) ≡ flat (map (downLanes m) (parted w (4 * m + 3) (now (cells .entry)))) ++ drop (w * 17) (now (here .entry)) ⌝ }
+{
+    let size = 4 * m + 3;
+    let mut j: usize = 0;
+    while j < w {
+        lanes::put_lanes(
+            here,
+            j * LANES,
+            lanes_down(m, &cells[j * size..j * size + size]),
         );
         j += 1;
     }
@@ -319,7 +355,7 @@ fn raise_node(row: &[i32], next: &[i32], room: [i32; 17], arcs: &mut [u8]) -> Ra
             let mut stays = false;
             let to = (b as usize - 1) * LANES;
             if next[to + 16] != FAR {
-                let z = lanes::sum_of(lanes::lanes_at(next, to), lanes::lanes_at(row, v * LANES));
+                let z = lanes::along(lanes::lanes_at(next, to), row, v);
                 let least = lanes::least_of(up, z);
                 up = least;
                 stays = lanes::at_most(z, room);
@@ -365,14 +401,26 @@ fn raise(
     fell
 }
 
-// The row of one layer becomes that of the layer before it, each arc between them is tested, and the cells of that layer get
-// their up numbers; whether an arc fell. `spare` and `room` are room to work in.
+// Whether the cells of a layer get their up numbers: if they are to stay, or no arc fell, of the layers behind it nor of its own.
+fn puts(stay: bool, whole: bool, fell: bool) -> bool
+    ensures { λ r. ⌜ r ≡ (stay || (whole && not fell)) ⌝ }
+{
+    if stay {
+        return true;
+    }
+    if fell { false } else { whole }
+}
+
+// The row of one layer becomes that of the layer before it, and each arc between them is tested; whether an arc fell. The cells of
+// that layer get their up numbers if the test is free, or if no arc fell: of the layers behind it, which `whole` says, nor of its
+// own. `spare` and `room` are room to work in.
 pub fn next_up(
     m: usize,
     w: usize,
     row: &[i32],
     next: &mut [i32],
     free: bool,
+    whole: bool,
     limit: &[i32],
     arcs: &mut [u8],
     cells: &mut [i32],
@@ -383,13 +431,15 @@ pub fn next_up(
         × HalfCells m w (now cells) × (length (now spare) ≡ 272) × (length (now room) ≡ 272) ⌝ }
     ensures next { λ r. ⌜ now (next .exit) ≡ flat (raiseLayer (now (row .entry)) (now (next .entry)) (parted w 8 (now (arcs .entry)))) ++ drop (w * 17) (now (next .entry)) ⌝ }
     ensures arcs { λ r. ⌜ now (arcs .exit) ≡ flat (testLayer (now (row .entry)) (now (next .entry)) (parted w 8 (now (arcs .entry))) (map (roomLanes m free (now (limit .entry))) (parted w (4 * m + 3) (now (cells .entry))))) ⌝ }
-    ensures cells { λ r. ⌜ now (cells .exit) ≡ flat (layerCells (now (row .entry)) (now (next .entry)) m (parted w 8 (now (arcs .entry))) (parted w (4 * m + 3) (now (cells .entry)))) ⌝ }
+    ensures cells { λ r. ⌜ now (cells .exit) ≡ cond (free || (whole && not r)) (flat (layerCells (now (row .entry)) (now (next .entry)) m (parted w 8 (now (arcs .entry))) (parted w (4 * m + 3) (now (cells .entry))))) (now (cells .entry)) ⌝ }
     ensures fell { λ r. ⌜ r ≡ not (same (now (arcs .entry)) (now (arcs .exit))) ⌝ }
     ensures lengths { λ r. ⌜ (length (now (spare .exit)) ≡ 272) × (length (now (room .exit)) ≡ 272) ⌝ }
 {
     rooms(m, w, free, limit, cells, room);
     let fell = raise(w, row, next, room, arcs, spare);
-    put_ups(m, w, spare, cells);
+    if puts(free, whole, fell) {
+        put_ups(m, w, spare, cells);
+    }
     copy(w, spare, next);
     fell
 }

@@ -1,26 +1,23 @@
--- How do the parts, the lanes of a step and the row of a slot fill up, and what is a lane as an i32?
+-- How does the row of a slot fill up, how do the parts, and what is a share as an i32?
 use mathlib.Core.Path.{_≡_, refl, sym, ap, _∙_}
-use mathlib.Core.List.{List, [], _∷_, _++_, map, append-assoc, append-nil}
-use mathlib.Core.Bool.{Bool, true, false, cond}
-use Prim.Native.Nat.{ℕ, zero, suc, _+_, _*_, _/_, _%_, _^_, _-_, _≤_, _<_}
+use mathlib.Core.List.{List, [], _∷_, _++_, map, map-append, append-assoc}
+use Prim.Native.Nat.{ℕ, zero, suc, _+_, _*_, _/_, _%_, _^_, _-_, _<_}
 use native.Mathlib.Nat.{zero-add}
+use native.Mathlib.Numerals.{add-one}
 use native.Mathlib.Omega.{arith}
-use native.Mathlib.Decide.{decLt}
-use lib.Dec.{eqb}
-use borrow.Author.Tests.{eqb-true, eq-eqb, ne-eqb}
-use lib.ListN.{length, getD, set, take, drop, drop-of-length-le, length-drop, length-map, length-append, length-set, List·getD-append}
-use lib.Seq.{take-append-seam, drop-append-seam, drop-drop, getD-set-same, getD-set-other, getD-append-seam, getD-append-add, ext-getD}
-use lib.IntN.{ℤ, pos, negℤ, _+ℤ_, _-ℤ_, _*ℤ_}
+use borrow.Author.Tests.{eq-eqb, ne-eqb}
+use lib.ListN.{length, getD, set, take, drop, length-drop, length-map, length-append, length-set}
+use lib.Seq.{take-at, drop-append-add, take-set-le, take-suc-set, drop-set-add, drop-drop, take-all, take-add, length-take-le}
+use lib.IntN.{ℤ, pos, _+ℤ_, _*ℤ_}
 use mir.Syntax.{w32}
 use mir.Val.{SFits, toZ}
 use mir.Facts.{toZ-pos}
-use Rattle.laws.specs.Z.{Within, zarith, parts, dif, neg, widen, sum-within, mul-within, fits32, sum32, back, back-is}
+use Rattle.laws.specs.Z.{Within, sum-within, mul-within, sum32, back, back-is}
 use Rattle.laws.specs.Lists.{gather, from, padded}
-use Rattle.laws.proofs.Lists.{length-from, from-more, getD-map}
-use Rattle.laws.proofs.Each.{Each, each-map, each-from}
-use Rattle.laws.proofs.Filled.{padded-more, length-padded, length-rows, gather-more, each-padded}
+use Rattle.laws.proofs.Lists.{length-from, from-more}
+use Rattle.laws.proofs.Filled.{padded-more, length-padded, gather-more}
 use Rattle.problem.proofs.Shares.{times-is}
-use Rattle.slot.specs.Rows.{coefPart, valuePart, coefParts, valueParts, laneOf, lanesOf, stepLanes, CoefsRight}
+use Rattle.slot.specs.Rows.{coefPart, valuePart, coefParts, valueParts, laneOf, lanesOf}
 
 -- ---- what an among rule counts in a slot
 module _ (kind values slots i : ℕ) where
@@ -50,89 +47,17 @@ module _ {x : ℤ} {v b : ℕ} (w : Within 1000 x) (h : v < 8) (l : b < 2) where
   pub lane-is : back (back (back x *ℤ toZ w32 v) +ℤ toZ w32 b) ≡ x *ℤ pos v +ℤ pos b
   lane-is = rw same (back-is lane-within tt)
 
--- ---- a sign turned
-module _ {z : ℤ} (w : Within 7001 z) where
-  turned-within : Within 7001 (negℤ z)
-  turned-within = record { size = omega (arith, parts z, parts (negℤ z), neg z, w .size) }
-
-  turned : pos 0 -ℤ back z ≡ negℤ z
-  turned = rw (back-is w tt) (omega (zarith, dif (pos 0) z, neg z))
-
-  pub turned-fits : SFits w32 (pos 0 -ℤ back z)
-  turned-fits = rw turned (fits32 (widen tt turned-within))
-
-  pub turned-is : back (pos 0 -ℤ back z) ≡ negℤ z
-  turned-is = rw turned (back-is turned-within tt)
-
 -- ---- one number more
-pub map-append : {A B : Type 0} (f : A → B) (l m : List A) → map f (l ++ m) ≡ map f l ++ map f m
-map-append f [] m = refl
-map-append f (x ∷ l) m = ap (λ k. f x ∷ k) (map-append f l m)
+map-more : {A : Type 0} (f : ℕ → A) (r : ℕ) → map f (from 0 r) ++ f r ∷ [] ≡ map f (from 0 (r + 1))
+map-more f r = sym (ap (map f) (from-more 0 r) ∙ map-append f (from 0 r) ((0 + r) ∷ []) ∙ ap (λ k. map f (from 0 r) ++ f k ∷ []) (zero-add r))
 
 -- a table of m entries, zero past them: entry r is laid
 pub entry-laid : {A : Type 0} (z : A) (n : ℕ) (f : ℕ → A) (r : ℕ) → r < n → set (padded n z (map f (from 0 r))) r (f r) ≡ padded n z (map f (from 0 (r + 1)))
 entry-laid z n f r h =
     let long : length (map f (from 0 r)) ≡ r = length-map (from 0 r) f ∙ length-from 0 r in
-    let more : map f (from 0 r) ++ f r ∷ [] ≡ map f (from 0 (r + 1)) = sym (ap (map f) (from-more 0 r) ∙ map-append f (from 0 r) ((0 + r) ∷ []) ∙ ap (λ k. map f (from 0 r) ++ f k ∷ []) (zero-add r)) in
-    ap (λ k. set (padded n z (map f (from 0 r))) k (f r)) (sym long) ∙ padded-more z n (map f (from 0 r)) (f r) (omega arith) ∙ ap (padded n z) more
+    ap (λ k. set (padded n z (map f (from 0 r))) k (f r)) (sym long) ∙ padded-more z n (map f (from 0 r)) (f r) (omega arith) ∙ ap (padded n z) (map-more f r)
 
--- ---- the lanes of a step: the first r are laid, and as many with their sign turned
-pub record Filled (ls row : List ℤ) (r : ℕ) : Type 0 where
-  pub long : length row ≡ 17
-  pub low : (k : ℕ) → k < r → getD row k (pos 0) ≡ getD ls k (pos 0)
-  pub high : (k : ℕ) → k < r → getD row (8 + k) (pos 0) ≡ negℤ (getD ls k (pos 0))
-
-pub filled-none : (ls row : List ℤ) → length row ≡ 17 → Filled ls row 0
-filled-none ls row e = record { long = e; low = λ k h. absurd (omega arith); high = λ k h. absurd (omega arith) }
-
-pub filled-more : (ls row : List ℤ) (r : ℕ) → r < 8 → Filled ls row r → (x y : ℤ) → x ≡ getD ls r (pos 0) → y ≡ negℤ (getD ls r (pos 0)) → Filled ls (set (set row r x) (8 + r) y) (r + 1)
-filled-more ls row r b f x y e g = record {
-  long = length-set (set row r x) (8 + r) y ∙ length-set row r x ∙ f .long;
-  low = λ k h. getD-set-other (set row r x) (8 + r) k y (pos 0) (λ o. omega arith) ∙ elim (decLt k r) [
-    | yes a ↦ getD-set-other row r k x (pos 0) (λ o. omega arith) ∙ f .low k a
-    | no n ↦ let same : k ≡ r = omega arith in rw same (getD-set-same row r x (pos 0) (omega (arith, f .long)) ∙ e)
-  ];
-  high = λ k h. elim (decLt k r) [
-    | yes a ↦
-        getD-set-other (set row r x) (8 + r) (8 + k) y (pos 0) (λ o. omega arith)
-        ∙ getD-set-other row r (8 + k) x (pos 0) (λ o. omega arith)
-        ∙ f .high k a
-    | no n ↦ let same : k ≡ r = omega arith in rw same (getD-set-same (set row r x) (8 + r) y (pos 0) (omega (arith, f .long, length-set row r x)) ∙ g)
-  ];
-}
-
-pub filled-all : (ls row : List ℤ) → length ls ≡ 8 → Filled ls row 8 → (z : ℤ) → set row 16 z ≡ ls ++ map negℤ ls ++ (z ∷ [])
-filled-all ls row e f z =
-    let wide : length (map negℤ ls) ≡ 8 = length-map ls negℤ ∙ e in
-    let both : length (ls ++ map negℤ ls) ≡ 16 = length-append ls (map negℤ ls) ∙ omega arith in
-    let all : length (ls ++ map negℤ ls ++ (z ∷ [])) ≡ 17 = length-append (ls ++ map negℤ ls) (z ∷ []) ∙ omega arith in
-    ext-getD (pos 0) (set row 16 z) (ls ++ map negℤ ls ++ (z ∷ [])) (length-set row 16 z ∙ f .long ∙ sym all) (λ k h. at wide both k (omega (arith, length-set row 16 z, f .long)))
-  where
-    at : length (map negℤ ls) ≡ 8 → length (ls ++ map negℤ ls) ≡ 16 → (k : ℕ) → k < 17 → getD (set row 16 z) k (pos 0) ≡ getD (ls ++ map negℤ ls ++ (z ∷ [])) k (pos 0)
-    at wide both k h = elim (decLt k 16) [
-      | yes a ↦
-          getD-set-other row 16 k z (pos 0) (λ o. omega arith)
-          ∙ elim (decLt k 8) [
-            | yes b ↦ f .low k b ∙ sym (List·getD-append ls (map negℤ ls) (pos 0) k (omega arith))
-            | no n ↦
-                let again : k ≡ 8 + (k - 8) = omega arith in
-                ap (λ j. getD row j (pos 0)) again
-                ∙ f .high (k - 8) (omega arith)
-                ∙ sym (getD-map negℤ ls (k - 8) (pos 0) (pos 0) (omega arith))
-                ∙ sym (getD-append-add ls (map negℤ ls) (k - 8) (pos 0))
-                ∙ ap (λ j. getD (ls ++ map negℤ ls) (j + (k - 8)) (pos 0)) e
-                ∙ sym (ap (λ j. getD (ls ++ map negℤ ls) j (pos 0)) again)
-          ]
-          ∙ sym (List·getD-append (ls ++ map negℤ ls) (z ∷ []) (pos 0) k (omega arith))
-      | no n ↦
-          let last : k ≡ 16 = omega arith in
-          rw last
-          (getD-set-same row 16 z (pos 0) (omega (arith, f .long))
-          ∙ sym (getD-append-seam (ls ++ map negℤ ls) z [] (pos 0))
-          ∙ ap (λ j. getD (ls ++ map negℤ ls ++ (z ∷ [])) j (pos 0)) both)
-    ]
-
--- ---- the lanes by their parts
+-- ---- the shares by their parts
 pub lanes-long : (cs : List ℤ) (bs : List ℕ) (v : ℕ) → length cs ≡ length bs → length (lanesOf cs bs v) ≡ length cs
 lanes-long [] bs v e = refl
 lanes-long (c ∷ cs) [] v e = absurd (omega arith)
@@ -144,54 +69,67 @@ lanes-at (c ∷ cs) [] v r h e = absurd (omega arith)
 lanes-at (c ∷ cs) (a ∷ bs) v zero h e = refl
 lanes-at (c ∷ cs) (a ∷ bs) v (suc r) h e = lanes-at cs bs v r (omega arith) (omega arith)
 
--- ---- the row: step by step
-module _ (cs : List ℤ) (bs : List ℕ) (weight : ℤ) (wide : length cs ≡ 8) (same : length bs ≡ 8) where
-  pub step-long : (v : ℕ) → length (stepLanes cs bs weight v) ≡ 17
-  step-long v =
-      let ls = lanesOf cs bs v in
-      let long : length ls ≡ 8 = lanes-long cs bs v (omega arith) ∙ wide in
-      length-append (ls ++ map negℤ ls) ((weight *ℤ pos v) ∷ []) ∙ omega (arith, length-append ls (map negℤ ls), length-map ls negℤ)
+-- ---- the row: the shares of v steps are laid, and their prices
+pub record Priced (shares : ℕ → List ℤ) (price : ℕ → ℤ) (row : List ℤ) (v : ℕ) : Type 0 where
+  pub long : length row ≡ 72
+  pub low : take (v * 8) row ≡ gather shares (from 0 v)
+  pub high : take v (drop 64 row) ≡ map price (from 0 v)
 
-  steps-long : (v : ℕ) → length (gather (stepLanes cs bs weight) (from 0 v)) ≡ v * 17
-  steps-long v = length-rows (stepLanes cs bs weight) 17 step-long (from 0 v) ∙ ap (λ k. k * 17) (length-from 0 v)
+module _ (shares : ℕ → List ℤ) (price : ℕ → ℤ) where
+  pub priced-none : (row : List ℤ) → length row ≡ 72 → Priced shares price row 0
+  priced-none row e = record { long = e; low = refl; high = refl }
 
-  -- the loop's turn: the part of step v is laid between those before it and what stands behind
-  pub laid-next : (d row x : List ℤ) (v k : ℕ) → k ≡ 17 → length d ≡ 136 → v < 8 → row ≡ gather (stepLanes cs bs weight) (from 0 v) ++ drop (v * 17) d → x ≡ stepLanes cs bs weight v
-      → take (v * 17) row ++ (x ++ drop k (drop (v * 17) row)) ≡ gather (stepLanes cs bs weight) (from 0 (v + 1)) ++ drop ((v + 1) * 17) d
-  laid-next d row x v k e l h is new =
-      let f = stepLanes cs bs weight in
-      let so = gather f (from 0 v) in
-      let count = steps-long v in
-      let more : gather f (from 0 (v + 1)) ≡ so ++ f v = ap (gather f) (from-more 0 v ∙ ap (λ j. from 0 v ++ j ∷ []) (zero-add v)) ∙ gather-more f (from 0 v) v in
-      let first : take (v * 17) row ≡ so = ap (take (v * 17)) is ∙ ap (λ j. take j (so ++ drop (v * 17) d)) (sym count) ∙ take-append-seam so (drop (v * 17) d) in
-      let rest : drop (v * 17) row ≡ drop (v * 17) d = ap (drop (v * 17)) is ∙ ap (λ j. drop j (so ++ drop (v * 17) d)) (sym count) ∙ drop-append-seam so (drop (v * 17) d) in
-      let place : v * 17 + 17 ≡ (v + 1) * 17 = omega arith in
-      let behind : drop k (drop (v * 17) row) ≡ drop ((v + 1) * 17) d =
-      ap (drop k) rest ∙ ap (λ j. drop j (drop (v * 17) d)) e ∙ drop-drop 17 (v * 17) d ∙ ap (λ j. drop j d) place in
-      (λ t. first t ++ (new t ++ behind t)) ∙ sym (append-assoc so (f v) (drop ((v + 1) * 17) d)) ∙ ap (λ r. r ++ drop ((v + 1) * 17) d) (sym more)
+  -- the loop's turn: the part of step v, k places wide, is laid between those before it and what stands behind, then its price
+  module _ (row x : List ℤ) (v k : ℕ) (wide : k ≡ 8) (h : v < 8) (f : Priced shares price row v) (is : x ≡ shares v) (eight : length x ≡ 8) where
+    abbrev laid : List ℤ
+    laid = take (v * 8) row ++ (x ++ drop k (drop (v * 8) row))
 
-  pub row-long : (d : List ℤ) → length d ≡ 136 → (v : ℕ) → v ≤ 8 → length (gather (stepLanes cs bs weight) (from 0 v) ++ drop (v * 17) d) ≡ 136
-  row-long d l v h = length-append (gather (stepLanes cs bs weight) (from 0 v)) (drop (v * 17) d) ∙ omega (arith, steps-long v, length-drop (v * 17) d)
+    first-long : length (take (v * 8) row) ≡ v * 8
+    first-long = length-take-le (v * 8) row (omega (arith, f .long))
 
-  pub row-all : (d : List ℤ) → length d ≡ 136 → gather (stepLanes cs bs weight) (from 0 8) ++ drop (8 * 17) d ≡ gather (stepLanes cs bs weight) (from 0 8)
-  row-all d l = ap (λ r. gather (stepLanes cs bs weight) (from 0 8) ++ r) (drop-of-length-le d {i = 136} (omega arith)) ∙ append-nil (gather (stepLanes cs bs weight) (from 0 8))
+    pub laid-long : length laid ≡ 72
+    laid-long =
+        let behind = drop k (drop (v * 8) row) in
+        length-append (take (v * 8) row) (x ++ behind) ∙ omega (arith, f .long, first-long, length-append x behind, length-drop k (drop (v * 8) row), length-drop (v * 8) row)
 
--- ---- the coefficients that count are in range
-pub parts-right : (m i : ℕ) (kinds : List ℕ) (coefs : List ℤ) → CoefsRight m i kinds coefs → Each (Within 1000) (coefParts m i kinds coefs)
-parts-right m i kinds coefs h =
-    let f : ℕ → ℤ = λ r. coefPart (getD kinds r 0) (getD coefs (r * 24 + i) (pos 0)) in
-    let low : Each (λ r. r < m) (from 0 m) = each-from (λ r. r < m) 0 m (λ v l. rw (zero-add m) at l) in
-    each-padded (Within 1000) 8 (pos 0) (map f (from 0 m)) none (each-map (λ r. r < m) (Within 1000) f part (from 0 m) low)
-  where
-    none : Within 1000 (pos 0)
-    none = record { size = omega arith }
+    laid-low : take ((v + 1) * 8) laid ≡ gather shares (from 0 (v + 1))
+    laid-low =
+        let first = take (v * 8) row in
+        let behind = drop k (drop (v * 8) row) in
+        let next : gather shares (from 0 (v + 1)) ≡ gather shares (from 0 v) ++ shares v = ap (gather shares) (from-more 0 v ∙ ap (λ j. from 0 v ++ j ∷ []) (zero-add v)) ∙ gather-more shares (from 0 v) v in
+        ap (take ((v + 1) * 8)) (sym (append-assoc first x behind))
+        ∙ take-at (first ++ x) behind ((v + 1) * 8) (length-append first x ∙ omega (arith, first-long))
+        ∙ (λ j. f .low j ++ is j)
+        ∙ sym next
 
-    part : (r : ℕ) → r < m → Within 1000 (coefPart (getD kinds r 0) (getD coefs (r * 24 + i) (pos 0)))
-    part r l = go (eqb (getD kinds r 0) 2) refl
-      where
-        go : (t : Bool) → eqb (getD kinds r 0) 2 ≡ t → Within 1000 (cond t (getD coefs (r * 24 + i) (pos 0)) (pos 0))
-        go true e = h .at r l (eqb-true (getD kinds r 0) 2 e)
-        go false e = none
+    laid-high : drop 64 laid ≡ drop 64 row
+    laid-high =
+        let first = take (v * 8) row in
+        let behind = drop k (drop (v * 8) row) in
+        let rest = 64 - (v + 1) * 8 in
+        let place : 64 ≡ length (first ++ x) + rest = omega (arith, length-append first x, first-long) in
+        let end : v * 8 + k + rest ≡ 64 = omega arith in
+        (λ j. drop (place j) (sym (append-assoc first x behind) j))
+        ∙ drop-append-add (first ++ x) behind rest
+        ∙ ap (drop rest) (drop-drop k (v * 8) row)
+        ∙ drop-drop rest (v * 8 + k) row
+        ∙ ap (λ j. drop j row) end
+
+    pub priced-more : {y : ℤ} → y ≡ price v → Priced shares price (set laid (64 + v) y) (v + 1)
+    priced-more {y} cost = record {
+      long = length-set laid (64 + v) y ∙ laid-long;
+      low = take-set-le ((v + 1) * 8) laid (64 + v) y (omega arith) ∙ laid-low;
+      high =
+          let room : v < length (drop 64 laid) = omega (arith, length-drop 64 laid, laid-long) in
+          ap (take (v + 1)) (drop-set-add 64 laid v y)
+          ∙ rw add-one (take-suc-set (drop 64 laid) v y room)
+          ∙ (λ j. take v (laid-high j) ++ cost j ∷ [])
+          ∙ ap (λ l. l ++ price v ∷ []) (f .high)
+          ∙ map-more price v;
+    }
+
+  pub priced-all : (row : List ℤ) → Priced shares price row 8 → row ≡ gather shares (from 0 8) ++ map price (from 0 8)
+  priced-all row f = sym (take-all 72 row (omega (arith, f .long))) ∙ take-add 64 8 row ∙ (λ j. f .low j ++ f .high j)
 
 -- eight parts
 pub coefs-long : (m i : ℕ) (kinds : List ℕ) (coefs : List ℤ) → length (coefParts m i kinds coefs) ≡ 8

@@ -1,2 +1,3 @@
 -- What a slot's row means.
 pub mod Rows
+pub mod Tables

@@ -1,13 +1,11 @@
 -- Which lanes does an arc of each step add?
-use mathlib.Core.Path.{_≡_}
 use mathlib.Core.List.{List, [], _∷_, _++_, map}
 use mathlib.Core.Bool.{_&&_, cond}
-use Prim.Native.Nat.{ℕ, _+_, _*_, _/_, _%_, _^_, _<_}
+use Prim.Native.Nat.{ℕ, _+_, _*_, _/_, _%_, _^_}
 use lib.Dec.{eqb}
 use lib.ListN.{getD}
-use lib.IntN.{ℤ, pos, negℤ, _+ℤ_, _*ℤ_}
+use lib.IntN.{ℤ, pos, _+ℤ_, _*ℤ_}
 use Rattle.laws.specs.Lists.{gather, from, padded}
-use Rattle.laws.specs.Z.{Within}
 use Rattle.meaning.specs.Plan.{bit}
 use Rattle.meaning.specs.Problem.{mostSlots, mostRules, stepCount}
 
@@ -37,15 +35,6 @@ lanesOf [] values v = []
 lanesOf (c ∷ coefs) [] v = []
 lanesOf (c ∷ coefs) (a ∷ values) v = laneOf c a v ∷ lanesOf coefs values v
 
--- eight shares, eight with their sign turned, the price
-abbrev pub stepLanes : List ℤ → List ℕ → ℤ → ℕ → List ℤ
-stepLanes coefs values weight v = lanesOf coefs values v ++ map negℤ (lanesOf coefs values v) ++ ((weight *ℤ pos v) ∷ [])
-
--- step by step
-abbrev pub slotLanes : ℕ → ℕ → ℤ → List ℕ → List ℕ → List ℕ → List ℤ → List ℤ
-slotLanes m i weight kinds values slots coefs =
-    gather (stepLanes (coefParts m i kinds coefs) (valueParts m i kinds values slots) weight) (from 0 stepCount)
-
--- the coefficients that count are in range
-pub record CoefsRight (m i : ℕ) (kinds : List ℕ) (coefs : List ℤ) : Type 0 where
-  pub at : (r : ℕ) → r < m → getD kinds r 0 ≡ 2 → Within 1000 (getD coefs (r * mostSlots + i) (pos 0))
+-- a slot's row by its parts: eight shares for each step, then the prices
+abbrev pub slotLanes : List ℤ → List ℕ → ℤ → List ℤ
+slotLanes coefs values weight = gather (lanesOf coefs values) (from 0 stepCount) ++ map (λ v. weight *ℤ pos v) (from 0 stepCount)

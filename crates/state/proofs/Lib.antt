@@ -7,6 +7,8 @@ pub mod Sizes
 pub mod Turns
 -- rows of states
 pub mod Rows
+-- the shares of a step
+pub mod Steps
 -- keys and buckets
 pub mod Keys
 -- states with zeros behind those of the rules

@@ -11,7 +11,7 @@ use Rattle.laws.specs.Z.{zarith, sum, dif}
 use Rattle.laws.specs.Lists.{padded}
 use Rattle.laws.proofs.Filled.{length-padded}
 use Rattle.meaning.specs.Plan.{Rule}
-use Rattle.meaning.specs.Diagram.{Pair, State, merged, eqState, child, mayKeepAll}
+use Rattle.meaning.specs.Diagram.{Pair, State, eqState, child, mayKeepAll}
 use Rattle.state.specs.Pairs.{Inside, added, lessened, fitsIn}
 use Rattle.state.proofs.Joined.{noPair, joined, joined-length, joined-padded, add, lessen, equalLow, equalHigh, fitLow, fitHigh, both, all, added-joined, lessened-joined, equal-joined, fit-joined}
 

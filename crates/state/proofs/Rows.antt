@@ -8,18 +8,18 @@ use native.Mathlib.Omega.{arith}
 use lib.IntN.{ℤ, pos, negℤ, _+ℤ_}
 use lib.ListN.{length, getD, set, take, drop, length-map, length-drop, length-append}
 use lib.Seq.{paste, paste-suc, length-paste, take-paste, drop-paste, take-all, take-at, drop-at, take-add, take-take, drop-drop, length-take-le, getD-take, getD-drop, set-append-left, take-set-lt, drop-set-lt}
-use Rattle.laws.specs.Z.{minZ, Within, back}
+use Rattle.laws.specs.Z.{minZ, Within}
 use Rattle.laws.proofs.Lists.{getD-map}
 use Rattle.laws.proofs.Filled.{take-within}
-use Rattle.laws.proofs.Each.{Each, each-take, each-drop, each-at}
+use Rattle.laws.proofs.Each.{Each, each-take, each-drop}
 use Rattle.lent.specs.Lanes.{zipped}
 use Rattle.lent.proofs.Lanes.{neg-neg, neg-sum, neg-max}
 use Rattle.meaning.specs.Diagram.{Pair, State, merged, mergedState}
 use Rattle.state.specs.declared.Pair as pair
 use Rattle.state.specs.Pairs.{pairOf, Inside, added, paired, pairsAt, unpaired}
 use Rattle.state.proofs.Joined.{noPair, joined, joined-append, joined-map, add, added-joined, merged-joined}
-use Rattle.state.proofs.Sizes.{pairs-long, neg-size, sum-back}
-use Rattle.state.proofs.Turns.{filled, stored, zeroPair, inside-at, JoinedTo, join-more}
+use Rattle.state.proofs.Sizes.{pairs-long, neg-size}
+use Rattle.state.proofs.Turns.{filled, stored, zeroPair}
 
 -- ---- a state's lanes
 -- a pair's low, and its high with the sign turned
@@ -128,16 +128,10 @@ module _ (row : List ℤ) (at : ℕ) (room : at + 16 ≤ length row) where
       rw (paired-lows (take 8 (drop at row)) (take 8 (drop (at + 8) row)) both-long, paired-highs (take 8 (drop at row)) (take 8 (drop (at + 8) row)) both-long) (sym (halves row at))
 
   -- the pair of place k
-  pub pairs-at : (k : ℕ) → k < 8 → getD (pairsAt row at) k noPair ≡ (getD row (at + k) (pos 0), negℤ (getD row (at + 8 + k) (pos 0)))
+  pairs-at : (k : ℕ) → k < 8 → getD (pairsAt row at) k noPair ≡ (getD row (at + k) (pos 0), negℤ (getD row (at + 8 + k) (pos 0)))
   pairs-at k h =
       paired-at (take 8 (drop at row)) (take 8 (drop (at + 8) row)) k (omega (arith, lows-long)) (omega (arith, highs-long))
       ∙ rw (row-at row at k 8 h, row-at row (at + 8) k 8 h)
-
-  -- how large the lanes of a place are
-  pub lanes-within : (b k : ℕ) → k < 8 → Inside b (pairsAt row at) → Within b (getD row (at + k) (pos 0)) × Within b (getD row (at + 8 + k) (pos 0))
-  lanes-within b k h i =
-      let here = rw (pairs-at k h) at (each-at (λ p. Within b (p .0) × Within b (p .1)) (pairsAt row at) k noPair (record { size = omega arith }, record { size = omega arith }) i) in
-      (here .0, record { size = omega (arith, here .1 .size, neg-size (getD row (at + 8 + k) (pos 0))) })
 
 -- the state whose lanes stand there
 pub pairs-of : (row : List ℤ) (at : ℕ) (t : State) → length t ≡ 8 → take 16 (drop at row) ≡ unpaired t → pairsAt row at ≡ t
@@ -188,20 +182,8 @@ module _ (d : List ℤ) (at : ℕ) (s : List pair.Pair) (long : length s ≡ 8) 
       let t = map pairOf s in
       paste-twice d at (map low t) (map turned t) 8 8 (omega arith) (length-map t low ∙ pairs-long s long) (length-map t turned ∙ pairs-long s long)
 
--- ---- turns of the loops that take a state from a row, and add one
-module _ (row : List ℤ) (at : ℕ) (room : at + 16 ≤ length row) (k : ℕ) (h : k < 8) where
-  pub taken-more : (s : List pair.Pair) (a : State) → length a ≡ 8 → map pairOf s ≡ filled k (pairsAt row at) a
-      → map pairOf (set s k (record { lo = getD row (at + k) (pos 0); hi = getD row (at + 8 + k) (pos 0) })) ≡ filled (k + 1) (pairsAt row at) a
-  taken-more s a n e =
-      stored pairOf s k (record { lo = getD row (at + k) (pos 0); hi = getD row (at + 8 + k) (pos 0) }) (pairsAt row at) a noPair (omega (arith, pairs-length row at room)) (omega arith) e (sym (pairs-at row at room k h))
-
-  pub child-more : (s t : List pair.Pair) → length s ≡ 8 → Inside 10000000 (map pairOf s) → Inside 10000000 (pairsAt row at) → JoinedTo add s (pairsAt row at) k t
-      → JoinedTo add s (pairsAt row at) (k + 1) (set t k (record { lo = back (back (getD s k zeroPair .lo) +ℤ back (getD row (at + k) (pos 0))); hi = back (back (getD s k zeroPair .hi) +ℤ back (getD row (at + 8 + k) (pos 0))) }))
-  child-more s t long i j e =
-      let p = getD s k zeroPair in
-      let x = getD row (at + k) (pos 0) in
-      let y = getD row (at + 8 + k) (pos 0) in
-      let f = inside-at 10000000 s k i in
-      let g = lanes-within row at room 10000000 k h j in
-      join-more add s (pairsAt row at) long (pairs-length row at room) t k (record { lo = back (back (p .lo) +ℤ back x); hi = back (back (p .hi) +ℤ back y) }) h e
-      (rw (sum-back (f .0) (g .0), sum-back (f .1) (g .1), pairs-at row at room k h) (ap (λ (z : ℤ). (p .lo +ℤ x, z)) (neg-sum (p .hi) y)))
+-- ---- a turn of the loop that takes a state from a row
+pub taken-more : (row : List ℤ) (at : ℕ) → at + 16 ≤ length row → (k : ℕ) → k < 8 → (s : List pair.Pair) (a : State) → length a ≡ 8 → map pairOf s ≡ filled k (pairsAt row at) a
+    → map pairOf (set s k (record { lo = getD row (at + k) (pos 0); hi = getD row (at + 8 + k) (pos 0) })) ≡ filled (k + 1) (pairsAt row at) a
+taken-more row at room k h s a n e =
+    stored pairOf s k (record { lo = getD row (at + k) (pos 0); hi = getD row (at + 8 + k) (pos 0) }) (pairsAt row at) a noPair (omega (arith, pairs-length row at room)) (omega arith) e (sym (pairs-at row at room k h))

@@ -1,7 +1,7 @@
 -- Which pairs does a state by value have, and what are its sums, tests, lanes and keys?
 use mathlib.Core.List.{List, [], _∷_, map, _++_}
 use mathlib.Core.Bool.{Bool, true, _&&_}
-use Prim.Native.Nat.{ℕ, _+_, _%_}
+use Prim.Native.Nat.{ℕ, _+_, _*_, _%_}
 use lib.ListN.{take, drop}
 use lib.IntN.{ℤ, pos, negℤ, natAbs, _+ℤ_, _-ℤ_, _*ℤ_}
 use lib.Signed.{leZ}
@@ -50,6 +50,10 @@ paired (x ∷ xs) (y ∷ ys) = (x, negℤ y) ∷ paired xs ys
 -- the pairs that stand at a place of a row: eight lows, eight turned highs
 abbrev pub pairsAt : List ℤ → ℕ → paper.State
 pairsAt row at = paired (take 8 (drop at row)) (take 8 (drop (at + 8) row))
+
+-- the shares of step v in a slot's row: each counts for the low and for the high
+abbrev pub sharesAt : List ℤ → ℕ → paper.State
+sharesAt row v = map (λ z. (z, z)) (take 8 (drop (v * 8) row))
 
 -- the lanes of some pairs: the lows, the turned highs
 abbrev pub unpaired : paper.State → List ℤ

@@ -6,7 +6,7 @@ ghost use lib.ListN.{length};
 ghost use lib.Seq.{paste};
 ghost use Rattle.laws.specs.Z.{Within, minZ};
 ghost use Rattle.meaning.specs.Diagram.{merged, mergedState, eqState};
-ghost use Rattle.state.specs.Pairs.{pairOf, pairs, Inside, added, lessened, fitsIn, pairsAt, unpaired, keyOf, bucketIn};
+ghost use Rattle.state.specs.Pairs.{pairOf, pairs, Inside, added, lessened, fitsIn, pairsAt, sharesAt, unpaired, keyOf, bucketIn};
 
 // A rule's low, and its high with the sign turned.
 pub struct Pair {
@@ -19,20 +19,19 @@ pub struct State {
     pub at: [Pair; 8],
 }
 
-// The state with the pairs added that stand at a place of a row: L plus share and U plus share.
-pub fn child(s: State, row: &[i32], at: usize) -> State
-    requires { ⌜ (at + 16 ≤ length (now row)) × Inside 10000000 (pairs s) × Inside 10000000 (pairsAt (now row) at) ⌝ }
-    ensures { λ r. ⌜ pairs r ≡ added (pairs s) (pairsAt (now (row .entry)) at) ⌝ }
+// The state with the shares of step v of a slot's row added: L plus share and U plus share.
+pub fn child(s: State, row: &[i32], v: usize) -> State
+    requires { ⌜ (v < 8) × (64 ≤ length (now row)) × Inside 10000000 (pairs s) × Inside 10000000 (sharesAt (now row) v) ⌝ }
+    ensures { λ r. ⌜ pairs r ≡ added (pairs s) (sharesAt (now (row .entry)) v) ⌝ }
 {
     let mut t = s;
     let mut k: usize = 0;
     while k < 8 {
         let p = s.at[k];
-        let x = row[at + k];
-        let y = row[at + 8 + k];
+        let share = row[v * 8 + k];
         t.at[k] = Pair {
-            lo: p.lo + x,
-            hi: p.hi + y,
+            lo: p.lo + share,
+            hi: p.hi - share,
         };
         k += 1;
     }
@@ -154,6 +153,25 @@ pub fn taken(row: &[i32], at: usize) -> State
         let lo = row[at + k];
         let hi = row[at + 8 + k];
         s.at[k] = Pair { lo: lo, hi: hi };
+        k += 1;
+    }
+    s
+}
+
+// The shares of step v of a slot's row as a state.
+pub fn shares(row: &[i32], v: usize) -> State
+    requires { ⌜ (v < 8) × (64 ≤ length (now row)) × Inside 10000000 (sharesAt (now row) v) ⌝ }
+    ensures { λ r. ⌜ pairs r ≡ sharesAt (now (row .entry)) v ⌝ }
+{
+    let none = Pair { lo: 0, hi: 0 };
+    let mut s = State { at: [none; 8] };
+    let mut k: usize = 0;
+    while k < 8 {
+        let share = row[v * 8 + k];
+        s.at[k] = Pair {
+            lo: share,
+            hi: -share,
+        };
         k += 1;
     }
     s

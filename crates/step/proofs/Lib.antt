@@ -1,3 +1,3 @@
 -- Laws that only proofs cite.
--- a list laid element by element, and the tests of a step
+-- the tests of a step, and the totals behind it
 pub mod Steps

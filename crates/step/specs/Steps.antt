@@ -7,10 +7,11 @@ use lib.ListN.{getD, take, drop}
 use lib.Seq.{paste}
 use lib.IntN.{ℤ, pos, _+ℤ_, _-ℤ_, _*ℤ_}
 use lib.Signed.{leZ}
-use Rattle.laws.specs.Lists.{every, gather, from, padded}
+use Rattle.laws.specs.Lists.{every, from}
 use Rattle.meaning.specs.Plan.{allows}
 use Rattle.lent.specs.Lanes.{sums}
-use Rattle.slot.specs.Rows.{coefParts, valueParts, lanesOf}
+use Rattle.slot.specs.Rows.{lanesOf}
+use Rattle.slot.specs.Tables.{coefsIn, weightsIn, leastsIn, mostsIn, valuesIn, setsIn}
 
 -- the totals with rule r's low up and high up, which stand at 4r + 3 and 4r + 4 of the node's cells, may lie in lb..ub
 abbrev pub mayKeep : ℕ → List ℤ → List ℤ → List ℤ → ℕ → List ℤ → Bool
@@ -18,36 +19,9 @@ mayKeep m lb ub cells at totals =
     let z = pos 0 in
     every (λ r. leZ (getD totals r z +ℤ getD cells (at + 4 * r + 3) z) (getD ub r z) && leZ (getD lb r z) (getD totals r z +ℤ getD cells (at + 4 * r + 4) z)) (from 0 m)
 
--- the coefficient of each rule in each of n slots, eight to a slot, zero past them
-abbrev pub coefTable : ℕ → ℕ → List ℕ → List ℤ → List ℤ
-coefTable n m kinds coefs = padded 192 (pos 0) (gather (λ i. coefParts m i kinds coefs) (from 0 n))
-
--- the same of the values that it counts
-abbrev pub valueTable : ℕ → ℕ → List ℕ → List ℕ → List ℕ → List ℕ
-valueTable n m kinds values slots = padded 192 0 (gather (λ i. valueParts m i kinds values slots) (from 0 n))
-
 -- eight totals with the shares of slot i and step v, by the tables of parts
 abbrev pub withShares : List ℤ → List ℕ → ℕ → ℕ → List ℤ → List ℤ
 withShares coefs values i v totals = sums totals (lanesOf (take 8 (drop (i * 8) coefs)) (take 8 (drop (i * 8) values)) v)
-
--- ---- the tables of a walk: what the rules count in each of 24 slots, eight to a slot; behind it the weights, lbs and ubs, and the step sets
-abbrev pub coefsIn : List ℤ → List ℤ
-coefsIn x = take 192 x
-
-abbrev pub weightsIn : List ℤ → List ℤ
-weightsIn x = take 24 (drop 192 x)
-
-abbrev pub leastsIn : List ℤ → List ℤ
-leastsIn x = take 8 (drop 216 x)
-
-abbrev pub mostsIn : List ℤ → List ℤ
-mostsIn x = take 8 (drop 224 x)
-
-abbrev pub valuesIn : List ℕ → List ℕ
-valuesIn x = take 192 x
-
-abbrev pub setsIn : List ℕ → List ℕ
-setsIn x = take 24 (drop 192 x)
 
 -- ---- the trail: for each slot the totals before it and what is left of the ceiling
 abbrev pub totalsAt : ℕ → List ℤ → List ℤ

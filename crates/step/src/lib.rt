@@ -9,19 +9,14 @@ ghost use lib.Seq.{paste};
 ghost use lib.IntN.{pos};
 ghost use Rattle.laws.specs.Z.{Within};
 ghost use Rattle.laws.proofs.Each.{Each};
-ghost use Rattle.meaning.specs.Plan.{allows};
-ghost use Rattle.step.specs.Steps.{laying, mayKeep, coefTable, valueTable, coefsIn, weightsIn, leastsIn, mostsIn, valuesIn, setsIn, totalsAt, budgetAt, hereAt, goesOn, trod};
+ghost use Rattle.slot.specs.Tables.{coefsIn, weightsIn, leastsIn, mostsIn};
+ghost use Rattle.step.specs.Steps.{laying, mayKeep, totalsAt, budgetAt, hereAt, goesOn, trod};
+use slot::LEASTS;
+use slot::MOSTS;
+use slot::SETS;
+use slot::WEIGHTS;
 
 // ---- one step
-// Behind the parts of every slot and rule: where the weights begin in the one table, and the step sets in the other.
-const WEIGHTS: usize = 192;
-
-// Where the least totals begin.
-const LEASTS: usize = 216;
-
-// Where the greatest totals begin.
-const MOSTS: usize = 224;
-
 // A level of the trail: eight totals and what is left of the ceiling.
 const LEVEL: usize = 9;
 
@@ -39,18 +34,10 @@ pub fn is_arc(b: usize) -> bool
     b != 0
 }
 
-// The slot's set, as it stands behind the values, has the step.
-fn allows(set: u32, v: usize) -> bool
-    requires { ⌜ v < 8 ⌝ }
-    ensures { λ r. ⌜ r ≡ allows 8 set v ⌝ }
-{
-    (set >> v) % 2 == 1
-}
-
 // The totals behind step v of slot i.
 fn with_shares<'a>(
     coefs: &'a [i32; 232],
-    values: &'a [u32; 216],
+    values: &'a [u16; 216],
     i: usize,
     v: usize,
     trail: &[i32; 225],
@@ -130,7 +117,7 @@ fn put_level(trail: &mut [i32; 225], at: usize, totals: [i32; 8], rest: i32)
 pub fn goes<'a>(
     m: usize,
     coefs: &'a [i32; 232],
-    values: &'a [u32; 216],
+    values: &'a [u16; 216],
     i: usize,
     v: usize,
     cells: &[i32],
@@ -141,8 +128,8 @@ pub fn goes<'a>(
     ensures { λ r. ⌜ r ≡ goesOn m (now (coefs .entry)) (now (values .entry)) i v (now (cells .entry)) at (now (trail .entry)) ⌝ }
     ensures trail { λ r. ⌜ now (trail .exit) ≡ cond (goesOn m (now (coefs .entry)) (now (values .entry)) i v (now (cells .entry)) at (now (trail .entry))) (trod (now (coefs .entry)) (now (values .entry)) i v (now (trail .entry))) (now (trail .entry)) ⌝ }
 {
-    let set = values[WEIGHTS + i];
-    if !allows(set, v) {
+    let set = values[SETS + i];
+    if !problem::allows(set, v) {
         return false;
     }
     let weight = coefs[WEIGHTS + i];
@@ -156,64 +143,6 @@ pub fn goes<'a>(
     }
     put_level(trail, (i + 1) * LEVEL, totals, rest);
     true
-}
-
-// A slot's step set, as wide as the values that it stands behind.
-fn wide(set: u16) -> u32
-    ensures { λ r. ⌜ r ≡ set ⌝ }
-{
-    set as u32
-}
-
-// What a walk reads of a problem, into two tables that are zero: of every slot what each rule counts there, eight to a slot; behind
-// it the weights and bounds, and the step sets.
-pub fn put_parts<'a>(
-    n: usize,
-    m: usize,
-    sets: &'a [u16; 24],
-    weights: &'a [i32; 24],
-    kinds: &'a [u8; 8],
-    counted: &'a [u16; 8],
-    slots: &'a [u32; 8],
-    units: &'a [i32; 192],
-    lb: &'a [i32; 8],
-    ub: &'a [i32; 8],
-    coefs: &mut [i32; 232],
-    values: &mut [u32; 216],
-)
-    requires { ⌜ (n ≤ 24) × (m ≤ 8) × (length (now sets) ≡ 24) × (length (now weights) ≡ 24) × (length (now lb) ≡ 8) × (length (now ub) ≡ 8) × (now coefs ≡ replicate 232 (pos 0)) × (now values ≡ replicate 216 0) ⌝ }
-    ensures coefs { λ r. ⌜ (coefsIn (now (coefs .exit)) ≡ coefTable n m (now (kinds .entry)) (now (units .entry))) × (weightsIn (now (coefs .exit)) ≡ now (weights .entry)) × (leastsIn (now (coefs .exit)) ≡ now (lb .entry)) × (mostsIn (now (coefs .exit)) ≡ now (ub .entry)) × (length (now (coefs .exit)) ≡ 232) ⌝ }
-    ensures values { λ r. ⌜ (valuesIn (now (values .exit)) ≡ valueTable n m (now (kinds .entry)) (now (counted .entry)) (now (slots .entry))) × (setsIn (now (values .exit)) ≡ now (sets .entry)) × (length (now (values .exit)) ≡ 216) ⌝ }
-{
-    let mut i: usize = 0;
-    while i < n {
-        let p = slot::parts_of(m, i, kinds, counted, slots, units);
-        let mut r: usize = 0;
-        while r < 8 {
-            let coef = p.coefs[r];
-            let value = p.values[r];
-            coefs[i * 8 + r] = coef;
-            values[i * 8 + r] = value;
-            r += 1;
-        }
-        i += 1;
-    }
-    let mut k: usize = 0;
-    while k < 24 {
-        let weight = weights[k];
-        let set = sets[k];
-        coefs[WEIGHTS + k] = weight;
-        values[WEIGHTS + k] = wide(set);
-        k += 1;
-    }
-    let mut r: usize = 0;
-    while r < 8 {
-        let least = lb[r];
-        let most = ub[r];
-        coefs[LEASTS + r] = least;
-        coefs[MOSTS + r] = most;
-        r += 1;
-    }
 }
 
 // ---- the page

@@ -9,7 +9,8 @@ use lib.Dec.{eqb}
 use lib.ListN.{length, getD, set, take, drop, length-set}
 use lib.Seq.{take-set-le}
 use lib.IntN.{ℤ}
-use Rattle.step.specs.Steps.{laying, mayKeep, coefsIn, weightsIn, leastsIn, mostsIn, valuesIn, setsIn, totalsAt, budgetAt, restAt, hereAt, goesOn, trod}
+use Rattle.slot.specs.Tables.{coefsIn, weightsIn, leastsIn, mostsIn, valuesIn, setsIn}
+use Rattle.step.specs.Steps.{laying, mayKeep, totalsAt, budgetAt, restAt, hereAt, goesOn, trod}
 use Rattle.walk.specs.Beginnings.{Walkable, Finds, firstOf, isOpen}
 use Rattle.walk.proofs.Trail.{level-totals, level-budget, below, trod-below, trod-totals, trod-budget, trod-long, totals-long}
 use Rattle.step.proofs.Steps.{here-long}

@@ -6,17 +6,16 @@ use mathlib.Core.Bool.{Bool, not, cond}
 use mathlib.Core.Option.{none}
 use Prim.Native.Nat.{ℕ, zero, suc, _+_, _*_, _-_, _≤_, _<_}
 use native.Mathlib.Omega.{arith}
-use native.Mathlib.Nat.{zero-add, zero-mul, suc-mul, mul-assoc}
+use native.Mathlib.Nat.{zero-mul, suc-mul, mul-assoc}
 use borrow.Author.Tests.{eq-eqb, ne-eqb}
 use lib.Dec.{eqb, ltb}
-use lib.ListN.{length, getD, take, drop, replicate, length-append, length-drop, length-map, take-append-drop}
-use lib.Seq.{length-take-le, take-at, take-all, take-append-le, getD-take}
-use lib.IntN.{ℤ, pos, negℤ, _*ℤ_}
+use lib.ListN.{length, getD, take, drop, replicate, length-drop, length-map, take-append-drop}
+use lib.Seq.{length-take-le, take-at, getD-take}
+use lib.IntN.{ℤ, pos, _*ℤ_}
 use Rattle.laws.specs.Z.{Within}
-use Rattle.laws.specs.Lists.{gather, from, padded, parted}
-use Rattle.laws.proofs.Lists.{length-from, getD-from}
-use Rattle.laws.proofs.Each.{Each, each-at, each-append, each-flat, each-from, each-gather}
-use Rattle.laws.proofs.Filled.{length-padded, take-padded, row-padded, map-places, each-padded}
+use Rattle.laws.specs.Lists.{from, padded, parted}
+use Rattle.laws.proofs.Each.{Each, each-at, each-append, each-flat}
+use Rattle.laws.proofs.Filled.{take-padded, take-within, map-places}
 use Rattle.meaning.specs.Plan.{Rule, Campaign, slots}
 use Rattle.meaning.specs.Problem.{version1, ruleOf}
 use Rattle.meaning.specs.Diagram.{Arcs}
@@ -27,23 +26,19 @@ use Rattle.problem.specs.declared.Problem.{Problem}
 use Rattle.problem.specs.Held.{saidAt, campaignOf}
 use Rattle.problem.proofs.Faultless.{Right, right}
 use Rattle.lent.specs.Small.{Fit}
-use Rattle.lent.specs.Vec.{arcVec}
-use Rattle.lent.specs.Lanes.{lanesAt}
 use Rattle.lent.proofs.Shape.{form-of, form-low}
 use Rattle.lent.proofs.Fit.{downs-fit, ups-fit}
 use Rattle.lent.proofs.Cells.{cells-within}
-use Rattle.lent.proofs.Vec.{slot-at}
 use Rattle.lent.proofs.Whole.{downsAt, upsAt, downs-count, ups-count}
 use Rattle.lent.proofs.Table.{cells-count as cells-all, table-each}
-use Rattle.slot.specs.Rows.{coefParts, valueParts, lanesOf, stepLanes}
-use Rattle.slot.proofs.Laws.{lanes-long, step-long, parts-right, coefs-long, values-long}
-use Rattle.slot.proofs.Said.{map-map, said-weight, said-coefs, said-row, said-small, rules-long}
+use Rattle.slot.specs.Rows.{lanesOf}
+use Rattle.slot.specs.Tables.{coefsIn, weightsIn, leastsIn, mostsIn, valuesIn, setsIn, Tabled}
+use Rattle.slot.proofs.Said.{map-map, said-weight, tabled-coefs, tabled-shares, said-small, rules-long}
 use Rattle.numbers.specs.Whole.{Ready, Formed}
 use Rattle.numbers.proofs.Passes.{Setting, setting, few-rules, few-slots, parted-flat}
-use Rattle.numbers.proofs.Blocks.{block-at}
 use Rattle.step.specs.Answers.{listedAs}
 use Rattle.walk.specs.Beginnings.{rests, layAll, Walkable, Steers, Finds}
-use Rattle.step.specs.Steps.{Laid, coefTable, valueTable, coefsIn, weightsIn, leastsIn, mostsIn, valuesIn, setsIn, totalsAt, budgetAt}
+use Rattle.step.specs.Steps.{Laid, totalsAt, budgetAt}
 use Rattle.walk.proofs.Laying.{end, lay-count, lay-more, lay-page, lay-long}
 use Rattle.walk.proofs.Rests.{rests-long, walked-all, walked-behind}
 use Rattle.walk.proofs.Nodes.{downOf, upOf, celled}
@@ -90,60 +85,17 @@ module _ {q : Campaign} {w n m : ℕ} {b : List ℕ} {a : Arcs} (s : Setting q w
       (each-at (Fit q (length a - i)) (upsAt q a i) j none tt (ups-fit q (s .small) a (s .whole .few) i)))
 
 -- ---- what the rules count, by the tables
-first-eight : (l m z : List ℤ) → length l ≡ 8 → take 8 (l ++ m ++ z) ≡ l
-first-eight l m z h = take-append-le 8 (l ++ m) z (omega (arith, length-append l m)) ∙ take-append-le 8 l m (omega arith) ∙ take-all 8 l (omega arith)
-
--- the row of slot i in a table of rows of eight
-row-of : {A : Type 0} (z : A) (f : ℕ → List A) → ((i : ℕ) → length (f i) ≡ 8) → (n i : ℕ) → n ≤ 24 → i < n → take 8 (drop (i * 8) (padded 192 z (gather f (from 0 n)))) ≡ f i
-row-of z f wide n i few h =
-    row-padded f 8 wide 192 z (from 0 n) i 8 0 (omega (arith, length-from 0 n)) (omega (arith, length-from 0 n)) (omega arith)
-    ∙ take-all 8 (f (getD (from 0 n) i 0)) (omega (arith, wide (getD (from 0 n) i 0)))
-    ∙ ap f (getD-from 0 n i h ∙ zero-add i)
-
 module _ (p : Problem) (h : Right version1 p) where
-  abbrev coefsOf : List ℤ
-  coefsOf = coefTable (p .n) (p .m) (p .kinds) (p .coefs)
-
-  abbrev valuesOf : List ℕ
-  valuesOf = valueTable (p .n) (p .m) (p .kinds) (p .values) (p .slots)
-
-  coefs-inside : Each (Within 1000) coefsOf
-  coefs-inside =
-      each-padded (Within 1000) 192 (pos 0) (gather (λ i. coefParts (p .m) i (p .kinds) (p .coefs)) (from 0 (p .n))) (record { size = omega arith })
-      (each-gather (λ i. i < p .n) (Within 1000) (λ i. coefParts (p .m) i (p .kinds) (p .coefs)) (λ i b. parts-right (p .m) i (p .kinds) (p .coefs) (said-coefs p h i b)) (from 0 (p .n))
-      (each-from (λ i. i < p .n) 0 (p .n) (λ i b. rw (zero-add (p .n)) at b)))
-
-  module _ (i v : ℕ) (b : i < p .n) (c : v < 8) where
-    abbrev cs : List ℤ
-    cs = coefParts (p .m) i (p .kinds) (p .coefs)
-
-    abbrev bs : List ℕ
-    bs = valueParts (p .m) i (p .kinds) (p .values) (p .slots)
-
-    abbrev shares : List ℤ
-    shares = map (λ r. r .share i v) (campaignOf p .rules)
-
-    lanes-are : lanesOf cs bs v ≡ padded 8 (pos 0) shares
-    lanes-are =
-        let weight = getD (p .weights) i (pos 0) in
-        let eight = coefs-long (p .m) i (p .kinds) (p .coefs) in
-        let same = values-long (p .m) i (p .kinds) (p .values) (p .slots) in
-        let f = stepLanes cs bs weight in
-        let long : length (lanesOf cs bs v) ≡ 8 = lanes-long cs bs v (eight ∙ sym same) ∙ eight in
-        let whole : f v ≡ arcVec (campaignOf p) i v =
-        sym (block-at 17 f (step-long cs bs weight eight same) 0 8 v c ∙ ap f (zero-add v)) ∙ ap (λ (row : List ℤ). lanesAt row (v * 17)) (said-row p h i b) ∙ slot-at (campaignOf p) (said-small p h) i v c in
-        sym (first-eight (lanesOf cs bs v) (map negℤ (lanesOf cs bs v)) ((weight *ℤ pos v) ∷ []) long) ∙ ap (take 8) whole
-        ∙ first-eight (padded 8 (pos 0) shares) (padded 8 (pos 0) (map negℤ shares)) (campaignOf p .price i v ∷ []) (length-padded (pos 0) 8 shares)
-
-    shares-are : shares ≡ take (p .m) (lanesOf (take 8 (drop (i * 8) coefsOf)) (take 8 (drop (i * 8) valuesOf)) v)
-    shares-are =
-        let few = h .head .most in
-        let rules = h .head .rules in
-        let long : length shares ≡ p .m = length-map (campaignOf p .rules) (λ r. r .share i v) ∙ rules-long p in
-        let coefs = row-of (pos 0) (λ i. coefParts (p .m) i (p .kinds) (p .coefs)) (λ i. coefs-long (p .m) i (p .kinds) (p .coefs)) (p .n) i few b in
-        let values = row-of 0 (λ i. valueParts (p .m) i (p .kinds) (p .values) (p .slots)) (λ i. values-long (p .m) i (p .kinds) (p .values) (p .slots)) (p .n) i few b in
-        sym (take-padded (pos 0) 8 shares (omega arith)) ∙ ap (λ (k : ℕ). take k (padded 8 (pos 0) shares)) long
-        ∙ sym (ap (take (p .m)) ((λ t. lanesOf (coefs t) (values t) v) ∙ lanes-are))
+  shares-are : {coefs : List ℤ} {values : List ℕ} → Tabled p coefs values → (i v : ℕ) → i < p .n
+      → map (λ r. r .share i v) (campaignOf p .rules) ≡ take (p .m) (lanesOf (take 8 (drop (i * 8) (coefsIn coefs))) (take 8 (drop (i * 8) (valuesIn values))) v)
+  shares-are {coefs} {values} t i v b =
+      let shares = map (λ r. r .share i v) (campaignOf p .rules) in
+      let few = h .head .most in
+      let rules = h .head .rules in
+      let long : length shares ≡ p .m = length-map (campaignOf p .rules) (λ r. r .share i v) ∙ rules-long p in
+      let row : lanesOf (take 8 (drop (i * 8) (coefsIn coefs))) (take 8 (drop (i * 8) (valuesIn values))) v ≡ padded 8 (pos 0) shares =
+      (λ j. lanesOf (take-within (i * 8) 8 192 coefs (omega arith) j) (take-within (i * 8) 8 192 values (omega arith) j) v) ∙ tabled-shares p h t i b v in
+      sym (take-padded (pos 0) 8 shares (omega arith)) ∙ ap (λ (k : ℕ). take k (padded 8 (pos 0) shares)) long ∙ sym (ap (take (p .m)) row)
 
   -- a bound of each rule
   bounds-are : (g : Rule → ℤ) (l : List ℤ) → length l ≡ 8 → ((k : ℕ) → g (ruleOf (saidAt p k)) ≡ getD l k (pos 0)) → map g (campaignOf p .rules) ≡ take (p .m) l
@@ -166,8 +118,8 @@ module _ {p : Problem} {w : ℕ} {arcs : List ℕ} {cells : List ℤ} (r : Ready
   set-up : Setting (campaignOf p) w (p .n) (p .m) arcs (arcsIn (campaignOf p) w arcs)
   set-up = setting r f sets
 
-  pub walkable : {weights coefs : List ℤ} → weights ≡ p .weights → coefs ≡ coefTable (p .n) (p .m) (p .kinds) (p .coefs) → Walkable (p .n) (p .m) w weights coefs arcs cells
-  walkable same is =
+  pub walkable : {weights coefs : List ℤ} {values : List ℕ} → weights ≡ p .weights → Tabled p coefs values → Walkable (p .n) (p .m) w weights (coefsIn coefs) arcs cells
+  walkable same t =
       let s = set-up in
       let q = campaignOf p in
       let low = form-low w (r .some) (arcsIn q w arcs) (form-of w (arcsIn q w arcs) (f .form)) in
@@ -181,18 +133,18 @@ module _ {p : Problem} {w : ℕ} {arcs : List ℕ} {cells : List ℤ} (r : Ready
         lead = bytes-low w (p .n) arcs (s .long) (subst (λ (n : ℕ). Each (Each (Each (λ b. b ≤ w))) (map (parted w 8) (parted n (w * 8) arcs))) (slots-are no-fault sets) low);
         inside = rw e (cells-inside s);
         priced = λ i b. rw same (said-weight p no-fault i b);
-        counted = rw is (coefs-inside p no-fault);
+        counted = tabled-coefs p no-fault t;
       }
 
-  pub steers : {coefs : List ℤ} {values : List ℕ} → coefs ≡ coefTable (p .n) (p .m) (p .kinds) (p .coefs) → values ≡ valueTable (p .n) (p .m) (p .kinds) (p .values) (p .slots) → length (p .lb) ≡ 8 → length (p .ub) ≡ 8
-      → Steers (campaignOf p) (arcsIn (campaignOf p) w arcs) (p .n) (p .m) w (p .sets) (p .weights) (p .lb) (p .ub) coefs values arcs cells
-  steers is are low high = record {
+  pub steers : {coefs : List ℤ} {values : List ℕ} → Tabled p coefs values → length (p .lb) ≡ 8 → length (p .ub) ≡ 8
+      → Steers (campaignOf p) (arcsIn (campaignOf p) w arcs) (p .n) (p .m) w (p .sets) (p .weights) (p .lb) (p .ub) (coefsIn coefs) (valuesIn values) arcs cells
+  steers t low high = record {
     eight = refl;
     sets-are = refl;
     slots-are = slots-are no-fault sets;
     rules-are = rules-long p;
     prices-are = λ i v b c. ap (λ (z : ℤ). z *ℤ pos v) (getD-take (p .n) (p .weights) i (pos 0) b);
-    shares-are = λ i v b c. rw (is, are) (shares-are p no-fault i v b c);
+    shares-are = λ i v b c. shares-are p no-fault t i v b;
     lbs-are = bounds-are p no-fault (λ r. r .lb) (p .lb) low (λ k. refl);
     ubs-are = bounds-are p no-fault (λ r. r .ub) (p .ub) high (λ k. refl);
     arcs-are = refl;
@@ -255,8 +207,7 @@ module _ (trail : List ℤ) (n : ℕ) where
 module _ {p : Problem} {w : ℕ} {arcs : List ℕ} {cells : List ℤ} (coefs : List ℤ) (values : List ℕ) (r : Ready p w) (sets : length (p .sets) ≡ 24) (low : length (p .lb) ≡ 8) (high : length (p .ub) ≡ 8)
     (f : Formed (campaignOf p) w arcs)
     (e : cells ≡ allCells (nodeNeed (campaignOf p)) w (downNumbers (campaignOf p) (arcsIn (campaignOf p) w arcs)) (upNumbers (campaignOf p) (arcsIn (campaignOf p) w arcs)))
-    (is : (coefsIn coefs ≡ coefTable (p .n) (p .m) (p .kinds) (p .coefs)) × (weightsIn coefs ≡ p .weights) × (leastsIn coefs ≡ p .lb) × (mostsIn coefs ≡ p .ub) × (length coefs ≡ 232))
-    (are : (valuesIn values ≡ valueTable (p .n) (p .m) (p .kinds) (p .values) (p .slots)) × (setsIn values ≡ p .sets) × (length values ≡ 216)) where
+    (t : Tabled p coefs values) where
   pub laid-walked : (c : ℤ) (trail : List ℤ) (start plan : List ℕ) → totalsAt 0 trail ≡ replicate 8 (pos 0) → budgetAt 0 trail ≡ c → plan ≡ start ++ replicate (24 - length start) 0 → (length start ≡ 0) ⊎ (length start ≡ p .n)
       → (cap : ℕ) (page later : List ℕ) (seen : ℕ)
       → Finds (p .n) (p .m) w (setsIn values) (weightsIn coefs) (leastsIn coefs) (mostsIn coefs) (coefsIn coefs) (valuesIn values) arcs cells (not (eqb (length start) 0)) (p .n - p .n) 0 (totalsAt (p .n - p .n) trail) (budgetAt (p .n - p .n) trail) plan cap page 0 later seen
@@ -266,11 +217,11 @@ module _ {p : Problem} {w : ℕ} {arcs : List ℕ} {cells : List ℤ} (coefs : L
       let a = arcsIn q w arcs in
       let h = right version1 p (r .right) in
       let all : p .n - 0 ≡ p .n = omega arith in
-      let st = steers r sets f e (is .0) (are .0) low high in
-      let stands = guided.begins q a (p .n) (p .m) w (p .sets) (p .weights) (p .lb) (p .ub) (coefsIn coefs) (valuesIn values) arcs cells (walkable r sets f e refl (is .0)) st (h .head .some) c (take (p .m) (replicate 8 (pos 0))) in
+      let st = steers r sets f e t low high in
+      let stands = guided.begins q a (p .n) (p .m) w (p .sets) (p .weights) (p .lb) (p .ub) (coefsIn coefs) (valuesIn values) arcs cells (walkable r sets f e refl t) st (h .head .some) c (take (p .m) (replicate 8 (pos 0))) in
       let own = not (eqb (length start) 0) in
       let walk = found-walked p h sets a c start plan begun s in
-      (rw (zeros, whole, are .1, is .1, is .2, is .3) at (rw (first-slot (p .n), all) at finds)) q a st stands ∙ ap (layAll (p .n) cap (record { page = page; seen = 0 })) (map-id (rests q a 0 0 (take (p .m) (replicate 8 (pos 0))) c own (take (p .n) plan)) ∙ walk)
+      (rw (zeros, whole, t .sets-are, t .weights-are, t .leasts-are, t .mosts-are) at (rw (first-slot (p .n), all) at finds)) q a st stands ∙ ap (layAll (p .n) cap (record { page = page; seen = 0 })) (map-id (rests q a 0 0 (take (p .m) (replicate 8 (pos 0))) c own (take (p .n) plan)) ∙ walk)
 
 -- ---- the answer
 module _ (n cap : ℕ) (page later : List ℕ) (seen : ℕ) (ps : List (List ℕ)) (room : cap * n ≤ length page) (each : Each (λ p. length p ≡ n) ps)

@@ -14,7 +14,8 @@ ghost use Rattle.problem.specs.Held.{campaignOf};
 ghost use Rattle.lent.specs.Wide.{laid};
 ghost use Rattle.numbers.specs.Whole.{Ready, Formed};
 ghost use Rattle.step.specs.Answers.{listedAs};
-ghost use Rattle.step.specs.Steps.{coefsIn, weightsIn, leastsIn, mostsIn, valuesIn, setsIn, totalsAt, budgetAt};
+ghost use Rattle.slot.specs.Tables.{coefsIn, weightsIn, leastsIn, mostsIn, valuesIn, setsIn, Tabled};
+ghost use Rattle.step.specs.Steps.{totalsAt, budgetAt};
 ghost use Rattle.walk.specs.Beginnings.{slotsIn, rulesIn, widthIn, roomIn, Walkable, Finds};
 use problem::Problem;
 use step::Listed;
@@ -43,7 +44,7 @@ fn child_at(m: usize, w: usize, i: usize, b: usize) -> usize
 fn node<'a>(
     sizes: &'a [usize; 4],
     coefs: &'a [i32; 232],
-    values: &'a [u32; 216],
+    values: &'a [u16; 216],
     arcs: &[u8],
     cells: &[i32],
     own: bool,
@@ -135,8 +136,10 @@ fn node<'a>(
 
 // Of the lawful plans within the ceiling after the start those that are paths of these arcs, as many as fit whole on the page,
 // the rest of it zero. The cells hold the numbers of the arcs.
-pub fn list(
+pub fn list<'a>(
     p: Problem,
+    coefs: &'a [i32; 232],
+    values: &'a [u16; 216],
     w: usize,
     ceiling: i32,
     start: &[u8],
@@ -144,37 +147,21 @@ pub fn list(
     cells: &[i32],
     page: &mut [u8],
 ) -> Listed
-    requires { ⌜ Ready p w × Within 2000000 ceiling × ((length (now start) ≡ 0) ⊎ (length (now start) ≡ p .n)) × Formed (campaignOf p) w (now arcs) × (now cells ≡ allCells (nodeNeed (campaignOf p)) w (downNumbers (campaignOf p) (arcsIn (campaignOf p) w (now arcs))) (upNumbers (campaignOf p) (arcsIn (campaignOf p) w (now arcs)))) × (p .n ≤ length (now page)) ⌝ }
+    requires { ⌜ Ready p w × Tabled p (now coefs) (now values) × Within 2000000 ceiling × ((length (now start) ≡ 0) ⊎ (length (now start) ≡ p .n)) × Formed (campaignOf p) w (now arcs) × (now cells ≡ allCells (nodeNeed (campaignOf p)) w (downNumbers (campaignOf p) (arcsIn (campaignOf p) w (now arcs))) (upNumbers (campaignOf p) (arcsIn (campaignOf p) w (now arcs)))) × (p .n ≤ length (now page)) ⌝ }
     ensures { λ r. ⌜ r ≡ listedAs (pageOf (length (now (page .entry)) / slots (campaignOf p)) (walked (arcsIn (campaignOf p) w (now (arcs .entry))) (campaignOf p) ceiling (now (start .entry)))) ⌝ }
     ensures page { λ r. ⌜ now (page .exit) ≡ pageBytes (length (now (page .entry))) (pageOf (length (now (page .entry)) / slots (campaignOf p)) (walked (arcsIn (campaignOf p) w (now (arcs .entry))) (campaignOf p) ceiling (now (start .entry)))) ⌝ }
 {
     let n = p.n;
     let cap = page.len() / n;
     let sizes = [n, p.m, w, cap];
-    let mut coefs = [0i32; 232];
-    let mut values = [0u32; 216];
-    step::put_parts(
-        n,
-        p.m,
-        &p.sets,
-        &p.weights,
-        &p.kinds,
-        &p.values,
-        &p.slots,
-        &p.coefs,
-        &p.lb,
-        &p.ub,
-        &mut coefs,
-        &mut values,
-    );
     let mut trail = [0i32; 225];
     trail[8] = ceiling;
     let mut plan = step::begun(start);
     let own = start.len() != 0;
     let seen = node(
         &sizes,
-        &coefs,
-        &values,
+        coefs,
+        values,
         arcs,
         cells,
         own,
@@ -204,23 +191,11 @@ pub fn walk(
     ensures arcs { λ r. ⌜ now (arcs .exit) ≡ laid 8 w (swept (campaignOf p) (arcsIn (campaignOf p) w (now (arcs .entry)))) ⌝ }
     ensures cells { λ r. ⌜ now (cells .exit) ≡ allCells (nodeNeed (campaignOf p)) w (downNumbers (campaignOf p) (arcsIn (campaignOf p) w (now (arcs .entry)))) (upNumbers (campaignOf p) (arcsIn (campaignOf p) w (now (arcs .entry)))) ⌝ }
 {
-    numbers::sweep(
-        p.n,
-        p.m,
-        &p.sets,
-        &p.weights,
-        &p.kinds,
-        &p.values,
-        &p.slots,
-        &p.coefs,
-        &p.lb,
-        &p.ub,
-        w,
-        false,
-        arcs,
-        cells,
-    );
-    list(p, w, ceiling, start, arcs, cells, page)
+    let mut coefs = [0i32; 232];
+    let mut values = [0u16; 216];
+    slot::put_parts(p, &mut coefs, &mut values);
+    numbers::sweep(p, &coefs, &values, w, 0, arcs, cells);
+    list(p, &coefs, &values, w, ceiling, start, arcs, cells, page)
 }
 
 // ---- the form of bytes that no builder need have made

@@ -2,7 +2,7 @@
 use Prim.Native.Nat.{_/_, _%_, _<_}
 use native.Mathlib.Nat.{mod-lt}
 use native.Mathlib.Omega.{arith}
-use Rattle.classes.proofs.Children.{step-room, node-fits, step-fits}
+use Rattle.classes.proofs.Children.{steps-room, node-fits, step-fits}
 use borrow.Author.Needs.{needs}
 use Rattle.classes.proofs.child_state.Statement.{statement}
 use Rattle.classes.proofs.child_state.Tie as tie
@@ -13,18 +13,15 @@ mul-taken c = search needs
 taken-requires : tie.Need-taken-requires
 taken-requires c κs = search needs
 
-mul-child : tie.Need-mul-child
-mul-child c = search needs
-
 child-requires : tie.Need-child-requires
 child-requires c κs =
     let held = c .before .pre .0 in
     let f = c .before .args .f in
     let low : f % 8 < 8 = mod-lt f (omega arith) in
-    (step-room held (f % 8) low, rw (c .taken .ensures) (node-fits held (f / 8)), step-fits held (f % 8) low)
+    (low, steps-room held, rw (c .taken .ensures) (node-fits held (f / 8)), step-fits held (f % 8) low)
 
 returns : tie.Need-returns
 returns c = rw (← c .before .taken .ensures) (c .child .ensures)
 
 pub child-state-spec : {M : Type 1} → statement M
-child-state-spec = tie.close (tie.spec mul-taken taken-requires mul-child child-requires returns)
+child-state-spec = tie.close (tie.spec mul-taken taken-requires child-requires returns)

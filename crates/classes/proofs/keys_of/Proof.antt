@@ -4,7 +4,7 @@ use mathlib.Core.Path.{_≡_, refl, ap, _∙_}
 use native.Mathlib.Omega.{arith}
 use Rattle.laws.specs.Z.{told}
 use Rattle.state.specs.Pairs.{keyOf}
-use Rattle.classes.proofs.Children.{node-room, step-room, node-small, step-small, KeysTo, keys-node, keys-step, keys-all}
+use Rattle.classes.proofs.Children.{node-room, steps-room, step-fits, node-small, step-small, KeysTo, keys-node, keys-step, keys-all}
 use borrow.Author.Needs.{needs}
 use Rattle.classes.proofs.keys_of.Statement.{statement}
 use Rattle.classes.proofs.keys_of.Tie as tie
@@ -61,16 +61,15 @@ loop2-holds c =
     let e : head .j ≡ c .before .before .args .nodes = omega arith in
     (omega arith, rw e at (head .inv .1))
 
-mul-taken-2 : tie.Need-mul-taken-2 Inv-loop μ-loop Inv-loop2 μ-loop2
-mul-taken-2 c = search needs
-
-taken-requires-2 : tie.Need-taken-requires-2 Inv-loop μ-loop Inv-loop2 μ-loop2
-taken-requires-2 c κs = step-room (c .before .before .before .before .pre .0) (c .before .loop2 .v) (omega arith)
+shares-requires : tie.Need-shares-requires Inv-loop μ-loop Inv-loop2 μ-loop2
+shares-requires c κs =
+    let held = c .before .before .before .before .pre .0 in
+    (omega arith, steps-room held, step-fits held (c .before .loop2 .v) (omega arith))
 
 key-requires-2 : tie.Need-key-requires-2 Inv-loop μ-loop Inv-loop2 μ-loop2
 key-requires-2 c κs =
     let x = c .before .before .before .before .before in
-    rw (c .taken2 .ensures) (step-small (x .pre .0) (c .before .before .loop2 .v) (omega arith))
+    rw (c .shares .ensures) (step-small (x .pre .0) (c .before .before .loop2 .v) (omega arith))
 
 add-keys : tie.Need-add-keys Inv-loop μ-loop Inv-loop2 μ-loop2
 add-keys c = search needs
@@ -91,7 +90,7 @@ loop2-again : tie.Need-loop2-again Inv-loop μ-loop Inv-loop2 μ-loop2
 loop2-again c =
     let x = c .before .before .before .before .before .before in
     let head = c .before .before .before .loop2 in
-    (omega arith, rw (told (c .key2 .result) (c .key2 .ok)) (keys-step (x .pre .1 .few) (omega arith) (head .inv .1) (c .key2 .result) (c .key2 .ensures ∙ ap keyOf (c .before .taken2 .ensures))))
+    (omega arith, rw (told (c .key2 .result) (c .key2 .ok)) (keys-step (x .pre .1 .few) (omega arith) (head .inv .1) (c .key2 .result) (c .key2 .ensures ∙ ap keyOf (c .before .shares .ensures))))
 
 returns : tie.Need-returns Inv-loop μ-loop Inv-loop2 μ-loop2
 returns c =
@@ -118,8 +117,7 @@ keys-of-spec =
     loop-less
     loop-again
     loop2-holds
-    mul-taken-2
-    taken-requires-2
+    shares-requires
     key-requires-2
     add-keys
     mul-keys-2

@@ -1,39 +1,48 @@
 -- `lead` meets its contract: at each turn the first i steps of the plan are written, and the node that they lead to is next.
-use mathlib.Core.Path.{_≡_, refl, _∙_}
-use Prim.Native.Nat.{_+_, _*_, _-_}
+use mathlib.Core.Path.{_≡_, refl, sym, ap, _∙_}
+use mathlib.Core.List.{List}
+use Prim.Native.Nat.{ℕ, _+_, _*_, _-_, _<_}
 use native.Mathlib.Omega.{arith}
 use borrow.Author.Needs.{needs}
 use lib.ListN.{length, getD, length-set}
-use lib.IntN.{pos}
+use lib.IntN.{ℤ, pos}
 use Rattle.laws.specs.Z.{back, told}
+use Rattle.meaning.specs.Problem.{version1}
 use Rattle.meaning.specs.Filter.{restrictedArcs}
 use Rattle.problem.specs.Held.{campaignOf}
+use Rattle.problem.proofs.Faultless.{right}
+use Rattle.slot.proofs.Laid.{part-at}
 use Rattle.diagram.proofs.Along.{Turn}
 use Rattle.diagram.proofs.Leading.{Way, Room, sizes, room, way-start, asks, taken, way-next, way-end}
 use Rattle.diagram.proofs.lead.Statement.{statement}
 use Rattle.diagram.proofs.lead.Tie as tie
 
 abbrev Inv-loop : tie.InvT-loop
-Inv-loop w arcs cells plan₀ p n m size j₀ i₀ plan j i = Way p w plan₀ plan i j × (length plan ≡ length plan₀)
+Inv-loop p coefs w arcs cells plan₀ m size j₀ i₀ plan j i = Way p w plan₀ plan i j × (length plan ≡ length plan₀)
 
 abbrev μ-loop : tie.MeasureT-loop
-μ-loop w arcs cells plan₀ p n m size j₀ i₀ plan j i = p .n - i
+μ-loop p coefs w arcs cells plan₀ m size j₀ i₀ plan j i = p .n - i
+
+-- the weight that stands in the table
+weighed : (s : tie.Start Inv-loop μ-loop) (i : ℕ) → i < s .args .p .n → getD (s .args .coefs .now) (192 + i) (pos 0) ≡ getD (s .args .p .weights) i (pos 0)
+weighed s i h =
+    sym (part-at 24 192 (s .args .coefs .now) (pos 0) i (omega (arith, right version1 (s .args .p) (s .pre .0 .ready .right) .head .most))) ∙ ap (λ (l : List ℤ). getD l i (pos 0)) (s .pre .1)
 
 -- where the turn's bytes and cells are
-places : (c : tie.In-loop Inv-loop μ-loop) → Room (c .before .before .before .before .args .t1 .m) (c .before .before .before .before .args .w) (c .before .loop .i) (c .before .loop .j) (length (c .before .before .before .before .args .arcs .now)) (length (c .before .before .before .before .args .cells .now))
-places c = room (c .before .before .before .before .pre .0) (c .before .loop .inv .0) (c .loop-test .taken)
+places : (c : tie.Then1 Inv-loop μ-loop) → Room (c .before .before .before .before .before .args .p .m) (c .before .before .before .before .before .args .w) (c .before .before .loop .i) (c .before .before .loop .j) (length (c .before .before .before .before .before .args .arcs .now)) (length (c .before .before .before .before .before .args .cells .now))
+places c = room (c .before .before .before .before .before .pre .0) (c .before .before .loop .inv .0) (c .if1 .taken)
 
 -- what the search found
 found : (c : tie.After-first-step Inv-loop μ-loop)
-    → (let s = c .before .before .before .before .before .before .before .before .before in
-    let l = c .before .before .before .before .before .before .loop in
-    Turn (campaignOf (s .args .t1)) (s .args .w) (restrictedArcs (campaignOf (s .args .t1)) (s .args .w)) (s .args .arcs .now) (l .i) ((l .i * s .args .w + l .j) * 8) (c .first-step .result))
+    → (let s = c .before .before .before .before .before .before .before .before .before .before in
+    let l = c .before .before .before .before .before .before .before .loop in
+    Turn (campaignOf (s .args .p)) (s .args .w) (restrictedArcs (campaignOf (s .args .p)) (s .args .w)) (s .args .arcs .now) (l .i) ((l .i * s .args .w + l .j) * 8) (c .first-step .result))
 found c =
-    let s = c .before .before .before .before .before .before .before .before .before in
-    let l = c .before .before .before .before .before .before .loop in
-    let i = c .before .before .before .before .before .loop-test .taken in
-    taken (s .pre .0) (l .inv .0) i (back (getD (s .args .t1 .weights) (l .i) (pos 0))) (told _ (c .before .before .before .weight .given))
-    (back (getD (s .args .cells .now) ((l .i * s .args .w + l .j) * (4 * s .args .t1 .m + 3) + 4 * s .args .t1 .m + 2) (pos 0))) (told _ (c .before .before .before .before .cost .given)) (c .first-step .result) (c .first-step .ensures .0)
+    let s = c .before .before .before .before .before .before .before .before .before .before in
+    let l = c .before .before .before .before .before .before .before .loop in
+    let i = c .before .before .before .before .before .if1 .taken in
+    taken (s .pre .0) (l .inv .0) i (back (getD (s .args .coefs .now) (192 + l .i) (pos 0))) (told _ (c .before .before .before .weight .given) ∙ weighed s (l .i) i)
+    (back (getD (s .args .cells .now) ((l .i * s .args .w + l .j) * (4 * s .args .p .m + 3) + 4 * s .args .p .m + 2) (pos 0))) (told _ (c .before .before .before .before .cost .given)) (c .first-step .result) (c .first-step .ensures .0)
 
 mul-size : tie.Need-mul-size Inv-loop μ-loop
 mul-size c = omega (arith, sizes (c .before .before .pre .0))
@@ -86,6 +95,9 @@ mul-cost-5 c = omega (arith, places c)
 shared-slice-copy-out-cost : tie.Need-shared-slice-copy-out-cost Inv-loop μ-loop
 shared-slice-copy-out-cost c = omega (arith, places c)
 
+add-weight : tie.Need-add-weight Inv-loop μ-loop
+add-weight c = omega (arith, places (c .before))
+
 mul-weight : tie.Need-mul-weight Inv-loop μ-loop
 mul-weight c = omega (arith, places (c .before))
 
@@ -133,17 +145,18 @@ part-first-step-end-2 c = omega (arith, places (c .before .before .before))
 
 first-step-requires : tie.Need-first-step-requires Inv-loop μ-loop
 first-step-requires c κs =
-    let s = c .before .before .before .before .before .before .before .before in
-    let l = c .before .before .before .before .before .loop in
-    asks (s .pre .0) (l .inv .0) (c .before .before .before .before .loop-test .taken) (back (getD (s .args .t1 .weights) (l .i) (pos 0))) (told _ (c .before .before .weight .given))
+    let s = c .before .before .before .before .before .before .before .before .before in
+    let l = c .before .before .before .before .before .before .loop in
+    let i = c .before .before .before .before .if1 .taken in
+    asks (s .pre .0) (l .inv .0) i (back (getD (s .args .coefs .now) (192 + l .i) (pos 0))) (told _ (c .before .before .weight .given) ∙ weighed s (l .i) i)
 
 cast-plan : tie.Need-cast-plan Inv-loop μ-loop
 cast-plan c = record { fits = omega (arith, c .first-step .ensures .1) }
 
 slice-write-plan : tie.Need-slice-write-plan Inv-loop μ-loop
 slice-write-plan c =
-    let s = c .before .before .before .before .before .before .before .before .before in
-    omega (arith, s .pre .1, c .before .before .before .before .before .before .loop .inv .1, c .before .before .before .before .before .loop-test .taken)
+    let s = c .before .before .before .before .before .before .before .before .before .before in
+    omega (arith, s .pre .3, c .before .before .before .before .before .before .before .loop .inv .1, c .before .before .before .before .before .if1 .taken)
 
 add-j : tie.Need-add-j Inv-loop μ-loop
 add-j c = omega (arith, places (c .before .before .before .before .before), c .first-step .ensures .1)
@@ -153,8 +166,8 @@ shared-slice-read-j c = omega (arith, places (c .before .before .before .before 
 
 cast-j : tie.Need-cast-j Inv-loop μ-loop
 cast-j c =
-    let s = c .before .before .before .before .before .before .before .before .before .before in
-    let l = c .before .before .before .before .before .before .before .loop in
+    let s = c .before .before .before .before .before .before .before .before .before .before .before in
+    let l = c .before .before .before .before .before .before .before .before .loop in
     record { fits = omega (arith, c .shared-slice-known2 .given ((l .i * s .args .w + l .j) * 8 + c .before .first-step .result)) }
 
 sub-j : tie.Need-sub-j Inv-loop μ-loop
@@ -168,20 +181,20 @@ loop-less c = search needs
 
 loop-again : tie.Need-loop-again Inv-loop μ-loop
 loop-again c =
-    let s = c .before .before .before .before .before .before .before .before .before .before in
-    let l = c .before .before .before .before .before .before .before .loop in
-    let i = c .before .before .before .before .before .before .loop-test .taken in
+    let s = c .before .before .before .before .before .before .before .before .before .before .before in
+    let l = c .before .before .before .before .before .before .before .before .loop in
+    let i = c .before .before .before .before .before .before .if1 .taken in
     let f = c .before .first-step in (
-      way-next (s .pre .0) (l .inv .0) i (back (getD (s .args .t1 .weights) (l .i) (pos 0))) (told _ (c .before .before .before .before .weight .given))
-          (back (getD (s .args .cells .now) ((l .i * s .args .w + l .j) * (4 * s .args .t1 .m + 3) + 4 * s .args .t1 .m + 2) (pos 0))) (told _ (c .before .before .before .before .before .cost .given)) (f .result) (f .ensures .0) (s .pre .1),
+      way-next (s .pre .0) (l .inv .0) i (back (getD (s .args .coefs .now) (192 + l .i) (pos 0))) (told _ (c .before .before .before .before .weight .given) ∙ weighed s (l .i) i)
+          (back (getD (s .args .cells .now) ((l .i * s .args .w + l .j) * (4 * s .args .p .m + 3) + 4 * s .args .p .m + 2) (pos 0))) (told _ (c .before .before .before .before .before .cost .given)) (f .result) (f .ensures .0) (s .pre .3),
       length-set (l .plan) (l .i) (f .result) ∙ l .inv .1,
     )
 
 same-length : tie.Need-same-length Inv-loop μ-loop
-same-length c = c .before .loop .inv .1
+same-length c = c .before .before .loop .inv .1
 
 returns : tie.Need-returns Inv-loop μ-loop
-returns c = way-end (c .before .before .before .before .pre .0) (c .before .loop .inv .0) (c .loop-test .left)
+returns c = way-end (c .before .before .before .before .before .pre .0) (c .before .before .loop .inv .0) (c .if1 .left)
 
 pub lead-spec : {M : Type 1} → statement M
 lead-spec =
@@ -206,6 +219,7 @@ lead-spec =
     add-cost-4
     mul-cost-5
     shared-slice-copy-out-cost
+    add-weight
     mul-weight
     element-copy-out-weight
     add-first-step

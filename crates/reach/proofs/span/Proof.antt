@@ -5,31 +5,28 @@ use Prim.Native.Nat.{_-_}
 use native.Mathlib.Omega.{arith}
 use borrow.Author.Needs.{needs}
 use Rattle.lent.specs.Lanes.{leasts}
-use Rattle.reach.specs.Spans.{leastOver}
+use Rattle.reach.specs.Spans.{stepLanes, leastOver}
 use Rattle.reach.proofs.Spans.{Spanned, no-steps, span-start, span-yes, span-no, span-end}
 use Rattle.reach.proofs.span.Statement.{statement}
 use Rattle.reach.proofs.span.Tie as tie
 
 abbrev Inv-loop : tie.InvT-loop
-Inv-loop row set s₀ v₀ s v = Spanned row set v s
+Inv-loop p set s₀ v₀ s v = Spanned (stepLanes (p .coefs) (p .values)) set v s
 
 abbrev μ-loop : tie.MeasureT-loop
-μ-loop row set s₀ v₀ s v = 8 - v
+μ-loop p set s₀ v₀ s v = 8 - v
 
 returns : tie.Need-returns Inv-loop μ-loop
-returns c = sym (ap (leastOver (c .before .args .row .now)) (no-steps (c .before .args .set) (omega (arith, c .if1 .taken))))
+returns c = let a = c .before .args in sym (ap (leastOver (stepLanes (a .p .coefs) (a .p .values))) (no-steps (a .set) (omega (arith, c .if1 .taken))))
 
 loop-holds : tie.Need-loop-holds Inv-loop μ-loop
-loop-holds c = span-start (c .before .args .row .now) (c .before .args .set)
+loop-holds c = let a = c .before .args in span-start (stepLanes (a .p .coefs) (a .p .values)) (a .set)
 
 allows-requires : tie.Need-allows-requires Inv-loop μ-loop
 allows-requires c κs = tt
 
-mul-lanes-at : tie.Need-mul-lanes-at Inv-loop μ-loop
-mul-lanes-at c = omega arith
-
-lanes-at-requires : tie.Need-lanes-at-requires Inv-loop μ-loop
-lanes-at-requires c κs = omega (arith, c .before .before .before .before .before .pre)
+step-lanes-requires : tie.Need-step-lanes-requires Inv-loop μ-loop
+step-lanes-requires c κs = (c .before .before .loop-test .taken, c .before .before .before .before .before .pre)
 
 least-of-requires : tie.Need-least-of-requires Inv-loop μ-loop
 least-of-requires c κs = tt
@@ -61,8 +58,7 @@ span-spec =
     returns
     loop-holds
     allows-requires
-    mul-lanes-at
-    lanes-at-requires
+    step-lanes-requires
     least-of-requires
     add-v
     loop-less

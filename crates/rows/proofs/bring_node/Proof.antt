@@ -11,9 +11,10 @@ use mir.Val.{toZ, ofZ}
 use mir.Facts.{toZ-ofZ}
 use Rattle.laws.specs.Z.{minZ, sum-within, sum32, back, back-is, back-within, told}
 use Rattle.lent.specs.Passes.{bringNode}
-use Rattle.state.specs.Pairs.{pairs, added, pairsAt}
+use Rattle.state.specs.Pairs.{pairs, added, pairsAt, sharesAt}
 use Rattle.state.proofs.Sizes.{mapped, pairs-long, inside-more, inside-added}
 use Rattle.state.proofs.Rows.{inside-row}
+use Rattle.state.proofs.Steps.{inside-shares}
 use Rattle.lanes.proofs.Laws.{lane-within}
 use Rattle.rows.proofs.Lanes.{byte-at}
 use Rattle.rows.proofs.Down.{lanesOf, lanes-within, Brought, brought-start, brought-none, brought-arc, brought-end}
@@ -47,16 +48,14 @@ mul-to c = omega (arith, byte-at (now (c .before .before .before .before .before
 taken-requires : tie.Need-taken-requires Inv-loop μ-loop
 taken-requires c κs = omega (arith, byte-at (now (c .before .before .before .before .before .before .args .arcs)) (c .before .before .before .before .loop .v) (c .before .before .before .before .before .before .pre .4), c .before .if1 .taken, c .before .before .before .before .loop .inv .1 .spare .long)
 
-mul-child : tie.Need-mul-child Inv-loop μ-loop
-mul-child c = search needs
-
 child-requires : tie.Need-child-requires Inv-loop μ-loop
 child-requires c κs =
     let a = c .before .before .before .before .before .before .before .args in
-    let at = c .before .before .before .before .before .loop .v * 17 in (
-      omega (arith, c .before .before .before .before .before .before .before .pre .0 .long, c .before .before .before .before .loop-test .taken),
+    let v = c .before .before .before .before .before .loop .v in (
+      c .before .before .before .before .loop-test .taken,
+      omega (arith, c .before .before .before .before .before .before .before .pre .0 .long),
       inside-more 4000000 10000000 (omega arith) (pairs (a .x)) (c .before .before .before .before .before .before .before .pre .1),
-      inside-more 4000000 10000000 (omega arith) (pairsAt (now (a .row)) at) (inside-row 4000000 (now (a .row)) at (c .before .before .before .before .before .before .before .pre .0 .inside)),
+      inside-more 4000000 10000000 (omega arith) (sharesAt (now (a .row)) v) (inside-shares 4000000 (now (a .row)) v (c .before .before .before .before .before .before .before .pre .0 .inside)),
     )
 
 merged-requires : tie.Need-merged-requires Inv-loop μ-loop
@@ -64,9 +63,9 @@ merged-requires c κs =
     let a = c .before .before .before .before .before .before .before .before .before .args in
     let l = c .before .before .before .before .before .before .before .loop in
     let to = (getD (now (a .arcs)) (l .v) 0 - 1) * 17 in
-    let share = pairsAt (now (a .row)) (l .v * 17) in (
+    let share = sharesAt (now (a .row)) (l .v) in (
       rw (c .before .before .taken .ensures) (inside-more 8000000 10000000 (omega arith) (pairsAt (l .next) to) (inside-row 8000000 (l .next) to (l .inv .1 .spare .inside))),
-      rw (c .before .child .ensures) (inside-more 8000000 10000000 (omega arith) (added (pairs (a .x)) share) (inside-added 4000000 4000000 (pairs (a .x)) share (c .before .before .before .before .before .before .before .before .before .pre .1) (inside-row 4000000 (now (a .row)) (l .v * 17) (c .before .before .before .before .before .before .before .before .before .pre .0 .inside)))),
+      rw (c .before .child .ensures) (inside-more 8000000 10000000 (omega arith) (added (pairs (a .x)) share) (inside-added 4000000 4000000 (pairs (a .x)) share (c .before .before .before .before .before .before .before .before .before .pre .1) (inside-shares 4000000 (now (a .row)) (l .v) (c .before .before .before .before .before .before .before .before .before .pre .0 .inside)))),
     )
 
 laid-requires : tie.Need-laid-requires Inv-loop μ-loop
@@ -81,29 +80,26 @@ mul-lesser c = omega (arith, byte-at (now (c .before .before .before .before .be
 slice-copy-out-lesser : tie.Need-slice-copy-out-lesser Inv-loop μ-loop
 slice-copy-out-lesser c = omega (arith, byte-at (now (c .before .before .before .before .before .before .before .before .before .before .before .before .args .arcs)) (c .before .before .before .before .before .before .before .before .before .before .loop .v) (c .before .before .before .before .before .before .before .before .before .before .before .before .pre .4), c .before .before .before .before .before .before .before .if1 .taken, c .before .before .before .before .before .before .before .before .before .before .loop .inv .1 .spare .long, c .before .laid .kept .0)
 
-mul-lesser-2 : tie.Need-mul-lesser-2 Inv-loop μ-loop
-mul-lesser-2 c = search needs
-
 add-lesser-2 : tie.Need-add-lesser-2 Inv-loop μ-loop
 add-lesser-2 c = search needs
 
-mul-lesser-3 : tie.Need-mul-lesser-3 Inv-loop μ-loop
-mul-lesser-3 c = search needs
+mul-lesser-2 : tie.Need-mul-lesser-2 Inv-loop μ-loop
+mul-lesser-2 c = search needs
 
 shared-slice-copy-out-lesser : tie.Need-shared-slice-copy-out-lesser Inv-loop μ-loop
 shared-slice-copy-out-lesser c = omega (arith, c .before .before .before .before .before .before .before .before .before .before .before .before .before .pre .0 .long, c .before .before .before .before .before .before .before .before .before .before .loop-test .taken)
 
 add-lesser-3 : tie.Need-add-lesser-3 Inv-loop μ-loop
-add-lesser-3 c = sum32 (back-within (c .before .before .before .before .before .before .before .before .before .before .before .before .before .before .pre .2) tt) (back-within (lane-within (now (c .before .before .before .before .before .before .before .before .before .before .before .before .before .before .args .row)) (c .before .before .before .before .before .before .before .before .before .before .before .before .loop .v * 17 + 16) (c .before .before .before .before .before .before .before .before .before .before .before .before .before .before .pre .0 .inside)) tt) tt
+add-lesser-3 c = sum32 (back-within (c .before .before .before .before .before .before .before .before .before .before .before .before .before .before .pre .2) tt) (back-within (lane-within (now (c .before .before .before .before .before .before .before .before .before .before .before .before .before .before .args .row)) (64 + c .before .before .before .before .before .before .before .before .before .before .before .before .loop .v) (c .before .before .before .before .before .before .before .before .before .before .before .before .before .before .pre .0 .inside)) tt) tt
 
 lesser-requires : tie.Need-lesser-requires Inv-loop μ-loop
 lesser-requires c κs = tt
 
-add-t31 : tie.Need-add-t31 Inv-loop μ-loop
-add-t31 c = omega (arith, byte-at (now (c .before .before .before .before .before .before .before .before .before .before .before .before .before .before .before .args .arcs)) (c .before .before .before .before .before .before .before .before .before .before .before .before .before .loop .v) (c .before .before .before .before .before .before .before .before .before .before .before .before .before .before .before .pre .4), c .before .before .before .before .before .before .before .before .before .before .if1 .taken)
+add-t30 : tie.Need-add-t30 Inv-loop μ-loop
+add-t30 c = omega (arith, byte-at (now (c .before .before .before .before .before .before .before .before .before .before .before .before .before .before .before .args .arcs)) (c .before .before .before .before .before .before .before .before .before .before .before .before .before .loop .v) (c .before .before .before .before .before .before .before .before .before .before .before .before .before .before .before .pre .4), c .before .before .before .before .before .before .before .before .before .before .if1 .taken)
 
-mul-t32 : tie.Need-mul-t32 Inv-loop μ-loop
-mul-t32 c = omega (arith, byte-at (now (c .before .before .before .before .before .before .before .before .before .before .before .before .before .before .before .args .arcs)) (c .before .before .before .before .before .before .before .before .before .before .before .before .before .loop .v) (c .before .before .before .before .before .before .before .before .before .before .before .before .before .before .before .pre .4), c .before .before .before .before .before .before .before .before .before .before .if1 .taken)
+mul-t31 : tie.Need-mul-t31 Inv-loop μ-loop
+mul-t31 c = omega (arith, byte-at (now (c .before .before .before .before .before .before .before .before .before .before .before .before .before .before .before .args .arcs)) (c .before .before .before .before .before .before .before .before .before .before .before .before .before .loop .v) (c .before .before .before .before .before .before .before .before .before .before .before .before .before .before .before .pre .4), c .before .before .before .before .before .before .before .before .before .before .if1 .taken)
 
 slice-set-from-next : tie.Need-slice-set-from-next Inv-loop μ-loop
 slice-set-from-next c = omega (arith, byte-at (now (c .before .before .before .before .before .before .before .before .before .before .before .before .before .before .before .args .arcs)) (c .before .before .before .before .before .before .before .before .before .before .before .before .before .loop .v) (c .before .before .before .before .before .before .before .before .before .before .before .before .before .before .before .pre .4), c .before .before .before .before .before .before .before .before .before .before .if1 .taken, c .before .before .before .before .before .before .before .before .before .before .before .before .before .loop .inv .1 .spare .long, c .before .before .before .before .laid .kept .0)
@@ -122,8 +118,8 @@ loop-again c =
     let row = now (a .row) in
     let to = (getD (now (a .arcs)) (l .v) 0 - 1) * 17 in
     let cost = back-within (c .before .before .before .before .before .pre .2) tt in
-    let share = lane-within row (l .v * 17 + 16) (c .before .before .before .before .before .pre .0 .inside) in
-    let added : back (back (a .cost) +ℤ back (getD row (l .v * 17 + 16) (pos 0))) ≡ back (a .cost) +ℤ getD row (l .v * 17 + 16) (pos 0) =
+    let share = lane-within row (64 + l .v) (c .before .before .before .before .before .pre .0 .inside) in
+    let added : back (back (a .cost) +ℤ back (getD row (64 + l .v) (pos 0))) ≡ back (a .cost) +ℤ getD row (64 + l .v) (pos 0) =
     back-is (sum-within cost (back-within share tt)) tt ∙ ap (λ z. back (a .cost) +ℤ z) (back-is share tt) in (
       l .inv .0,
       ⊎-elim
@@ -153,21 +149,19 @@ bring-node-spec =
     sub-to
     mul-to
     taken-requires
-    mul-child
     child-requires
     merged-requires
     laid-requires
     add-lesser
     mul-lesser
     slice-copy-out-lesser
-    mul-lesser-2
     add-lesser-2
-    mul-lesser-3
+    mul-lesser-2
     shared-slice-copy-out-lesser
     add-lesser-3
     lesser-requires
-    add-t31
-    mul-t32
+    add-t30
+    mul-t31
     slice-set-from-next
     add-v
     loop-less

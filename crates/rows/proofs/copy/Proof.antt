@@ -1,59 +1,61 @@
--- `copy` meets its contract: a turn copies one number.
+-- `copy` meets its contract: a turn copies one node.
+use mathlib.Core.Path.{ap, _∙_}
+use mathlib.Core.List.{_++_}
 use Prim.Native.Nat.{_-_, _*_}
 use native.Mathlib.Omega.{arith}
 use denote.Ref.{now}
-use mathlib.Core.Path.{_∙_, ap}
-use mathlib.Core.List.{_++_}
-use lib.ListN.{getD, take, drop}
-use lib.Seq.{length-take-le}
-use lib.IntN.{pos}
-use Rattle.laws.specs.Z.{told}
-use Rattle.rows.proofs.Laid.{Copied, copied-start, copied-long, part-more, copied-end}
+use lib.ListN.{drop}
+use Rattle.lent.specs.Lanes.{lanesAt}
+use Rattle.lanes.proofs.Laws.{length-lanes}
+use Rattle.rows.proofs.Laid.{place-in, Laying, laying-start, laying-place, laying-paste, laying-end}
+use Rattle.rows.proofs.Layers.{copyLeft, copy-next, copy-none, copy-all}
 use borrow.Author.Needs.{needs}
 use Rattle.rows.proofs.copy.Statement.{statement}
 use Rattle.rows.proofs.copy.Tie as tie
 
 abbrev Inv-loop : tie.InvT-loop
-Inv-loop w from to₀ end k₀ to k = Copied (take (w * 17) from) to₀ to k
+Inv-loop w from to₀ j₀ to j = Laying 17 w (copyLeft w from) to₀ to j
 
 abbrev μ-loop : tie.MeasureT-loop
-μ-loop w from to₀ end k₀ to k = w * 17 - k
-
-mul-end : tie.Need-mul-end Inv-loop μ-loop
-mul-end c = search needs
+μ-loop w from to₀ j₀ to j = w - j
 
 loop-holds : tie.Need-loop-holds Inv-loop μ-loop
-loop-holds c = copied-start (omega (arith, c .pre .0, c .pre .1, length-take-le (c .args .w * 17) (now (c .args .from)) (c .pre .0)))
+loop-holds c = laying-start (c .pre .1)
 
-mul-z : tie.Need-mul-z Inv-loop μ-loop
-mul-z c = search needs
+mul-put-lanes : tie.Need-mul-put-lanes Inv-loop μ-loop
+mul-put-lanes c = omega (arith, c .before .before .before .good .1 .1 .0, laying-place (c .before .before .loop .inv) (c .before .loop-test .taken))
 
-shared-slice-copy-out-z : tie.Need-shared-slice-copy-out-z Inv-loop μ-loop
-shared-slice-copy-out-z c = search needs
+mul-lanes-at : tie.Need-mul-lanes-at Inv-loop μ-loop
+mul-lanes-at c = omega (arith, c .before .before .before .good .1 .1 .0, laying-place (c .before .before .loop .inv) (c .before .loop-test .taken))
 
-mul-z-2 : tie.Need-mul-z-2 Inv-loop μ-loop
-mul-z-2 c = search needs
+lanes-at-requires : tie.Need-lanes-at-requires Inv-loop μ-loop
+lanes-at-requires c κs = omega (arith, c .before .before .before .pre .0, place-in (c .before .before .before .args .w) 17 (c .before .before .loop .j) (c .before .loop-test .taken))
 
-slice-set-from-z : tie.Need-slice-set-from-z Inv-loop μ-loop
-slice-set-from-z c = omega (arith, c .before .before .before .pre .1, copied-long (c .before .before .loop .inv))
+put-lanes-requires : tie.Need-put-lanes-requires Inv-loop μ-loop
+put-lanes-requires c κs = laying-place (c .before .before .before .loop .inv) (c .before .before .loop-test .taken)
 
-add-k : tie.Need-add-k Inv-loop μ-loop
-add-k c = search needs
+add-j : tie.Need-add-j Inv-loop μ-loop
+add-j c = search needs
 
 loop-less : tie.Need-loop-less Inv-loop μ-loop
 loop-less c = search needs
 
 loop-again : tie.Need-loop-again Inv-loop μ-loop
-loop-again c = part-more (c .before .before .before .args .w * 17) (now (c .before .before .before .args .from)) (pos 0) (c .before .before .before .pre .0) (c .before .before .loop .inv) (c .before .loop-test .taken) (told (getD (now (c .before .before .before .args .from)) (c .before .before .loop .k) (pos 0)) (c .z .given))
+loop-again c =
+    let a = c .before .before .before .before .before .before .args in
+    let from = now (a .from) in
+    let l = c .before .before .before .before .before .loop in
+    let t = c .before .before .before .before .loop-test .taken in
+    let long = length-lanes from (l .j * 17) (omega (arith, c .before .before .before .before .before .before .pre .0, place-in (a .w) 17 (l .j) t)) in
+    rw (c .before .put-lanes .ensures) (laying-paste (l .inv) (lanesAt from (l .j * 17)) t (c .before .before .lanes-at .ensures) long (copy-next (a .w) from (l .j) t))
 
 same-length : tie.Need-same-length Inv-loop μ-loop
-same-length c = copied-long (c .before .loop .inv)
+same-length c = c .before .loop .inv .long
 
 returns : tie.Need-returns Inv-loop μ-loop
 returns c =
     let a = c .before .before .args in
-    let long = length-take-le (a .w * 17) (now (a .from)) (c .before .before .pre .0) in
-    copied-end (c .before .loop .inv) (omega (arith, long)) ∙ ap (λ n. take (a .w * 17) (now (a .from)) ++ drop n (now (a .to))) long
+    laying-end (c .before .loop .inv) (c .loop-test .left) (copy-none (a .w) (now (a .from))) ∙ ap (λ l. l ++ drop (a .w * 17) (now (a .to))) (copy-all (a .w) (now (a .from)))
 
 pub copy-spec : {M : Type 1} → statement M
 copy-spec =
@@ -61,13 +63,12 @@ copy-spec =
     (tie.spec
     Inv-loop
     μ-loop
-    mul-end
     loop-holds
-    mul-z
-    shared-slice-copy-out-z
-    mul-z-2
-    slice-set-from-z
-    add-k
+    mul-put-lanes
+    mul-lanes-at
+    lanes-at-requires
+    put-lanes-requires
+    add-j
     loop-less
     loop-again
     same-length

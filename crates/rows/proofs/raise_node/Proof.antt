@@ -1,11 +1,11 @@
 -- `raise_node` meets its contract: a turn counts and tests one arc.
 use mathlib.Core.Logic.{⊎-elim}
-use mathlib.Core.Path.{_∙_}
+use mathlib.Core.Path.{ap, _∙_}
 use Prim.Native.Nat.{_-_, _*_}
 use native.Mathlib.Omega.{arith}
 use denote.Ref.{now}
 use lib.ListN.{getD}
-use Rattle.lent.specs.Lanes.{lanesAt, sums}
+use Rattle.lent.specs.Lanes.{lanesAt, arcAt, sums}
 use Rattle.rows.proofs.Lanes.{wide, each-lanes, far-at-yes, far-at-no}
 use Rattle.rows.proofs.Up.{Tested, tested-start, tested-byte, tested-none, tested-lone, tested-near, tested-up, tested-bytes, tested-fell}
 use borrow.Author.Needs.{needs}
@@ -45,20 +45,13 @@ shared-slice-copy-out-if2 c = omega (arith, tested-byte (c .before .before .befo
 lanes-at-requires : tie.Need-lanes-at-requires Inv-loop μ-loop
 lanes-at-requires c κs = omega (arith, tested-byte (c .before .before .before .before .before .loop .inv) (c .before .before .before .before .before .before .before .pre .2) (c .before .before .before .before .before .before .before .pre .3), c .before .before .if1 .taken, c .before .before .before .before .before .before .before .pre .1 .long)
 
-mul-lanes-at : tie.Need-mul-lanes-at Inv-loop μ-loop
-mul-lanes-at c = search needs
-
-lanes-at-requires-2 : tie.Need-lanes-at-requires-2 Inv-loop μ-loop
-lanes-at-requires-2 c κs = omega (arith, c .before .before .before .before .before .before .before .before .pre .0 .long, c .before .before .before .before .before .loop-test .taken)
-
-sum-of-requires : tie.Need-sum-of-requires Inv-loop μ-loop
-sum-of-requires c κs =
-    let a = c .before .before .before .before .before .before .before .before .before .args in
-    let l = c .before .before .before .before .before .before .before .loop in
-    let to = (getD (l .arcs) (l .v) 0 - 1) * 17 in (
-      rw (c .before .lanes-at .ensures) (wide (lanesAt (now (a .next)) to) (each-lanes (now (a .next)) to (c .before .before .before .before .before .before .before .before .before .pre .1 .inside))),
-      rw (c .lanes-at2 .ensures) (wide (lanesAt (now (a .row)) (l .v * 17)) (each-lanes (now (a .row)) (l .v * 17) (c .before .before .before .before .before .before .before .before .before .pre .0 .inside))),
-    )
+along-requires : tie.Need-along-requires Inv-loop μ-loop
+along-requires c κs =
+    let a = c .before .before .before .before .before .before .before .before .args in
+    let p = c .before .before .before .before .before .before .before .before .pre in
+    let l = c .before .before .before .before .before .before .loop in
+    let to = (getD (l .arcs) (l .v) 0 - 1) * 17 in
+    (rw (c .lanes-at .ensures) (wide (lanesAt (now (a .next)) to) (each-lanes (now (a .next)) to (p .1 .inside))), p .0 .long, wide (now (a .row)) (p .0 .inside), c .before .before .before .before .before .loop-test .taken)
 
 least-of-requires : tie.Need-least-of-requires Inv-loop μ-loop
 least-of-requires c κs = tt
@@ -90,7 +83,7 @@ loop-again c =
     let to = (getD (l .arcs) (l .v) 0 - 1) * 17 in
     ⊎-elim
     (λ w. rw (w .5, w .6, w .7, w .3 .ensures, w .4 .ensures) (⊎-elim
-    (λ y. rw (y .6, y .7) (tested-near (l .inv) eight t (w .0 .taken) (far-at-no next to (y .0 .taken)) (y .3 .ensures ∙ λ i. sums (y .1 .ensures i) (y .2 .ensures i)) (y .4 .ensures) (y .5 .ensures)))
+    (λ y. rw (y .5, y .6) (tested-near (l .inv) eight t (w .0 .taken) (far-at-no next to (y .0 .taken)) (y .2 .ensures ∙ ap (λ z. sums z (arcAt (now (c .before .before .before .before .before .args .row)) (l .v))) (y .1 .ensures)) (y .3 .ensures) (y .4 .ensures)))
     (λ y. rw (y .1, y .2) (tested-lone (l .inv) eight t (w .0 .taken) (far-at-yes next to (w .1 .given) (y .0 .left))))
     (w .2 .came)))
     (λ w. rw (w .1, w .2, w .3) (tested-none (l .inv) eight t (w .0 .left)))
@@ -120,9 +113,7 @@ raise-node-spec =
     mul-if2
     shared-slice-copy-out-if2
     lanes-at-requires
-    mul-lanes-at
-    lanes-at-requires-2
-    sum-of-requires
+    along-requires
     least-of-requires
     at-most-requires
     kept-requires

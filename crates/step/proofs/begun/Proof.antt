@@ -7,7 +7,7 @@ use lib.ListN.{length, take}
 use lib.Seq.{take-all}
 use Rattle.laws.specs.Lists.{padded}
 use Rattle.laws.proofs.Filled.{padded-split}
-use Rattle.step.proofs.Steps.{table-more}
+use Rattle.slot.proofs.Laid.{table-more}
 use borrow.Author.Needs.{needs}
 use Rattle.step.proofs.begun.Statement.{statement}
 use Rattle.step.proofs.begun.Tie as tie

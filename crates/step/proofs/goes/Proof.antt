@@ -15,8 +15,10 @@ use Rattle.laws.specs.Z.{Within, widen, back, back-is, back-within}
 use Rattle.laws.proofs.Each.{each-more}
 use Rattle.laws.proofs.Lists.{and-false}
 use Rattle.meaning.specs.Plan.{allows}
-use Rattle.step.specs.Steps.{mayKeep, weightsIn, leastsIn, mostsIn, setsIn, totalsAt, budgetAt, restAt, hereAt, goesOn, trod}
-use Rattle.step.proofs.Steps.{both-fits, both-is, le-not, less-within, part-at, here-within, goes-not, goes-so}
+use Rattle.slot.specs.Tables.{weightsIn, leastsIn, mostsIn, setsIn}
+use Rattle.step.specs.Steps.{mayKeep, totalsAt, budgetAt, restAt, hereAt, goesOn, trod}
+use Rattle.slot.proofs.Laid.{part-at}
+use Rattle.step.proofs.Steps.{both-fits, both-is, le-not, less-within, here-within, goes-not, goes-so}
 use borrow.Author.Needs.{needs}
 use borrow.Author.Tests.{not-true, not-false}
 use Rattle.step.proofs.goes.Statement.{statement}

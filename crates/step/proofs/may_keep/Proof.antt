@@ -14,8 +14,10 @@ use Rattle.laws.specs.Z.{Within, sum-within}
 use Rattle.laws.specs.Lists.{every, from}
 use Rattle.laws.proofs.Each.{each-at}
 use Rattle.laws.proofs.Left.{places-go, places-stop, places-end}
-use Rattle.step.specs.Steps.{mayKeep, leastsIn, mostsIn}
-use Rattle.step.proofs.Steps.{keepsAt, part-at, both-fits, above, below, inside}
+use Rattle.slot.specs.Tables.{leastsIn, mostsIn}
+use Rattle.step.specs.Steps.{mayKeep}
+use Rattle.slot.proofs.Laid.{part-at}
+use Rattle.step.proofs.Steps.{keepsAt, both-fits, above, below, inside}
 use borrow.Author.Needs.{needs}
 use Rattle.step.proofs.may_keep.Statement.{statement}
 use Rattle.step.proofs.may_keep.Tie as tie

@@ -7,7 +7,8 @@ use native.Mathlib.Omega.{arith}
 use denote.Ref.{now}
 use lib.ListN.{length, take}
 use lib.Seq.{length-take-le, getD-take}
-use Rattle.step.proofs.Steps.{Copied, copied-start, copied-long, copied-more, copied-end, put-place, put-laid, put-full}
+use Rattle.slot.proofs.Laid.{Copied, copied-start, copied-long, copied-more, copied-end}
+use Rattle.step.proofs.Steps.{put-place, put-laid, put-full}
 use borrow.Author.Needs.{needs}
 use Rattle.step.proofs.put.Statement.{statement}
 use Rattle.step.proofs.put.Tie as tie

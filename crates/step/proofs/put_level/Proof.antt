@@ -12,7 +12,7 @@ use mir.Syntax.{w32}
 use mir.Val.{toZ}
 use mir.Facts.{toZ-ofZ}
 use Rattle.laws.specs.Z.{back, told}
-use Rattle.step.proofs.Steps.{Copied, copied-start, copied-more, copied-end}
+use Rattle.slot.proofs.Laid.{Copied, copied-start, copied-more, copied-end}
 use borrow.Author.Needs.{needs}
 use Rattle.step.proofs.put_level.Statement.{statement}
 use Rattle.step.proofs.put_level.Tie as tie

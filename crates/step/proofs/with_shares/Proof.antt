@@ -10,8 +10,10 @@ use Rattle.laws.specs.Z.{Within, sum-within, back-is, back-within}
 use Rattle.laws.specs.Lists.{padded}
 use Rattle.laws.proofs.Each.{each-at}
 use Rattle.slot.specs.Rows.{laneOf}
-use Rattle.step.specs.Steps.{coefsIn, totalsAt, hereAt}
-use Rattle.step.proofs.Steps.{both-fits, both-is, table-more, table-all, part-at, here-long, here-at}
+use Rattle.slot.specs.Tables.{coefsIn}
+use Rattle.step.specs.Steps.{totalsAt, hereAt}
+use Rattle.slot.proofs.Laid.{table-more, table-all, part-at}
+use Rattle.step.proofs.Steps.{both-fits, both-is, here-long, here-at}
 use borrow.Author.Needs.{needs}
 use Rattle.step.proofs.with_shares.Statement.{statement}
 use Rattle.step.proofs.with_shares.Tie as tie

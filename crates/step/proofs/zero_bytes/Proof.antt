@@ -5,7 +5,7 @@ use native.Mathlib.Nat.{zero-add}
 use native.Mathlib.Omega.{arith}
 use denote.Ref.{now}
 use lib.ListN.{length, replicate, length-replicate, getD-replicate}
-use Rattle.step.proofs.Steps.{Copied, copied-start, copied-long, copied-more, copied-end, all-filled}
+use Rattle.slot.proofs.Laid.{Copied, copied-start, copied-long, copied-more, copied-end, all-pasted}
 use borrow.Author.Needs.{needs}
 use Rattle.step.proofs.zero_bytes.Statement.{statement}
 use Rattle.step.proofs.zero_bytes.Tie as tie
@@ -41,7 +41,7 @@ same-length c = copied-long (c .before .loop .inv)
 returns : tie.Need-returns Inv-loop μ-loop
 returns c =
     let d = now (c .before .before .args .page) in
-    copied-end (c .before .loop .inv) (omega (arith, copied-long (c .before .loop .inv), length-replicate {A = ℕ} (length d) 0)) ∙ all-filled 0 d
+    copied-end (c .before .loop .inv) (omega (arith, copied-long (c .before .loop .inv), length-replicate {A = ℕ} (length d) 0)) ∙ all-pasted d (replicate (length d) 0) (length-replicate {A = ℕ} (length d) 0)
 
 pub zero-bytes-spec : {M : Type 1} → statement M
 zero-bytes-spec =

@@ -10,7 +10,8 @@ use denote.Ref.{now}
 use lib.Dec.{eqb}
 use lib.ListN.{length, getD, take, drop, set, length-set}
 use lib.Seq.{getD-drop, set-getD}
-use Rattle.step.specs.Steps.{coefsIn, weightsIn, leastsIn, mostsIn, valuesIn, setsIn, totalsAt, budgetAt, hereAt, goesOn, trod}
+use Rattle.slot.specs.Tables.{coefsIn, weightsIn, leastsIn, mostsIn, valuesIn, setsIn}
+use Rattle.step.specs.Steps.{totalsAt, budgetAt, hereAt, goesOn, trod}
 use Rattle.step.proofs.Steps.{here-long, here-within}
 use Rattle.walk.specs.Beginnings.{slotsIn, rulesIn, widthIn, roomIn, firstOf}
 use mathlib.Core.List.{List}

@@ -18,86 +18,66 @@ use Rattle.problem.specs.Held.{campaignOf}
 use Rattle.problem.proofs.Faultless.{right}
 use Rattle.problem.proofs.Arrays.{long}
 use Rattle.step.specs.Answers.{listedAs}
-use Rattle.step.specs.Steps.{coefsIn, weightsIn}
 use Rattle.walk.proofs.Steered.{slots-are, walkable, totals-within, budget-within, laid-walked, walked-long, answer, bytes}
 use Rattle.walk.proofs.list.Statement.{statement}
 use Rattle.walk.proofs.list.Tie as tie
 
 -- how long the problem's arrays are
 module _ (s : tie.Start) where
-  sets-long : length (s .args .t1 .sets) ≡ 24
+  sets-long : length (s .args .p .sets) ≡ 24
   sets-long = search long
 
-  weights-long : length (s .args .t1 .weights) ≡ 24
-  weights-long = search long
-
-  low-long : length (s .args .t1 .lb) ≡ 8
+  low-long : length (s .args .p .lb) ≡ 8
   low-long = search long
 
-  high-long : length (s .args .t1 .ub) ≡ 8
+  high-long : length (s .args .p .ub) ≡ 8
   high-long = search long
 
 -- a start is at most 24 steps
 start-few : (s : tie.Start) → length (now (s .args .start)) ≤ 24
-start-few s = let h = right version1 (s .args .t1) (s .pre .0 .right) in ⊎-elim (λ z. omega arith) (λ z. omega (arith, h .head .most)) (s .pre .2)
+start-few s = let h = right version1 (s .args .p) (s .pre .0 .right) in ⊎-elim (λ z. omega arith) (λ z. omega (arith, h .head .most)) (s .pre .3)
 
 -- what fits on the page
 abbrev most : tie.Start → ℕ
-most s = length (now (s .args .page)) / s .args .t1 .n
+most s = length (now (s .args .page)) / s .args .p .n
 
-room : (s : tie.Start) → most s * s .args .t1 .n ≤ length (now (s .args .page))
-room s = div-mul-le-self (length (now (s .args .page))) (s .args .t1 .n)
+room : (s : tie.Start) → most s * s .args .p .n ≤ length (now (s .args .page))
+room s = div-mul-le-self (length (now (s .args .page))) (s .args .p .n)
 
 -- the trail at the source
 abbrev trail : tie.Start → List ℤ
 trail s = replicate 8 (pos 0) ++ (back (s .args .ceiling) ∷ replicate 216 (pos 0))
 
--- the tables
-module _ (c : tie.After-put-parts) where
-  abbrev coefs : List ℤ
-  coefs = c .put-parts .last .1 .1 .1 .1 .1 .1 .1 .1 .1 .1 .0
-
-  abbrev values : List ℕ
-  values = c .put-parts .last .1 .1 .1 .1 .1 .1 .1 .1 .1 .1 .1 .0
-
 div-cap : tie.Need-div-cap
-div-cap c = let s = c .before .before .before in right version1 (s .args .t1) (s .pre .0 .right) .head .some
-
-put-parts-requires : tie.Need-put-parts-requires
-put-parts-requires c κs =
-    let s = c .before .before .before .before .before .before .before .before .before .before .before .before .before .before in
-    let head = right version1 (s .args .t1) (s .pre .0 .right) .head in
-    (head .most, head .rules, sets-long s, weights-long s, low-long s, high-long s, refl {a = replicate 232 (pos 0)}, refl {a = replicate 216 0})
+div-cap c = let s = c .before .before .before in right version1 (s .args .p) (s .pre .0 .right) .head .some
 
 array-set-from-trail : tie.Need-array-set-from-trail
 array-set-from-trail c = search needs
 
 begun-requires : tie.Need-begun-requires
-begun-requires c κs = start-few (c .before .before .before .before .before .before .before .before .before .before .before .before .before .before .before)
+begun-requires c κs = start-few (c .before .before .before)
 
 node-requires : tie.Need-node-requires
 node-requires c κs =
-    let b = c .before .before .before .before .before .before in
-    let s = b .before .before .before .before .before .before .before .before .before .before .before .before .before .before .before .before in
-    let p = s .args .t1 in
-    let t = b .before in
-    let tables = t .put-parts .ensures in
+    let s = c .before .before .before .before .before .before .before .before in
+    let p = s .args .p in
+    let tables = s .pre .1 in
     let few = start-few s in
     let start = now (s .args .start) in (
-      walkable (s .pre .0) (sets-long s) (s .pre .3) (s .pre .4) {weights = weightsIn (coefs t)} {coefs = coefsIn (coefs t)} (tables .0 .1) (tables .0 .0),
+      walkable (s .pre .0) (sets-long s) (s .pre .4) (s .pre .5) (tables .weights-are) tables,
       right version1 p (s .pre .0 .right) .head .some,
       omega arith,
       s .pre .0 .some,
       totals-within (trail s) (p .n) refl,
-      budget-within (trail s) (p .n) (toZ-ofZ (s .fits .ceiling)) (s .pre .1),
+      budget-within (trail s) (p .n) (toZ-ofZ (s .fits .ceiling)) (s .pre .2),
       room s,
       div-le-self (length (now (s .args .page))) (p .n),
       omega arith,
       refl,
-      tables .0 .4,
-      tables .1 .2,
+      tables .long,
+      tables .wide,
       refl,
-      ap length (b .begun .ensures) ∙ length-append start (replicate (24 - length start) 0) ∙ omega (arith, length-replicate {A = ℕ} (24 - length start) 0),
+      ap length (c .before .before .before .before .begun .ensures) ∙ length-append start (replicate (24 - length start) 0) ∙ omega (arith, length-replicate {A = ℕ} (24 - length start) 0),
     )
 
 -- the page behind the recursion
@@ -105,11 +85,11 @@ module _ (c : tie.After-node) where
   abbrev later : List ℕ
   later = c .node .last .1 .1 .1 .1 .1 .1 .1 .1 .1 .1 .0
 
-  kept : length later ≡ length (now (c .before .before .before .before .before .before .before .before .before .before .before .before .before .before .before .before .before .before .before .before .before .before .before .args .page))
+  kept : length later ≡ length (now (c .before .before .before .before .before .before .before .before .before .args .page))
   kept = c .node .kept .1 .1 .1 .1 .1 .1 .1 .1 .1 .1 .0
 
 closed-requires : tie.Need-closed-requires
-closed-requires c κs = let k = c .before .before .before in rw (kept k) (room (k .before .before .before .before .before .before .before .before .before .before .before .before .before .before .before .before .before .before .before .before .before .before .before))
+closed-requires c κs = let k = c .before .before .before in rw (kept k) (room (k .before .before .before .before .before .before .before .before .before))
 
 same-length : tie.Need-same-length
 same-length c = search needs
@@ -117,18 +97,17 @@ same-length c = search needs
 returns : tie.Need-returns
 returns c =
     let k = c .before .before .before .before .before .before in
-    let b = k .before .before .before .before .before .before .before in
-    let s = b .before .before .before .before .before .before .before .before .before .before .before .before .before .before .before .before in
+    let b = c .before .before .before .before .before .before .before .before .before .before .before in
+    let s = c .before .before .before .before .before .before .before .before .before .before .before .before .before .before .before in
     let a = s .args in
-    let p = a .t1 in
+    let p = a .p in
     let q = campaignOf p in
     let sets = sets-long s in
-    let t = b .before in
     let page = now (a .page) in
     let h = right version1 p (s .pre .0 .right) in
     let ps = walked (arcsIn q (a .w) (now (a .arcs))) q (a .ceiling) (now (a .start)) in
-    let each = walked-long p h sets (arcsIn q (a .w) (now (a .arcs))) (a .ceiling) (now (a .start)) (b .begun .result) (b .begun .ensures) (s .pre .2) in
-    let laid = laid-walked (coefs t) (values t) (s .pre .0) sets (low-long s) (high-long s) (s .pre .3) (s .pre .4) (t .put-parts .ensures .0) (t .put-parts .ensures .1) (a .ceiling) (trail s) (now (a .start)) (b .begun .result) refl (toZ-ofZ (s .fits .ceiling)) (b .begun .ensures) (s .pre .2) (most s) page (later k) (k .node .result) (k .node .ensures .0) in
+    let each = walked-long p h sets (arcsIn q (a .w) (now (a .arcs))) (a .ceiling) (now (a .start)) (b .begun .result) (b .begun .ensures) (s .pre .3) in
+    let laid = laid-walked (now (a .coefs)) (now (a .values)) (s .pre .0) sets (low-long s) (high-long s) (s .pre .4) (s .pre .5) (s .pre .1) (a .ceiling) (trail s) (now (a .start)) (b .begun .result) refl (toZ-ofZ (s .fits .ceiling)) (b .begun .ensures) (s .pre .3) (most s) page (later k) (k .node .result) (k .node .ensures .0) in
     let n = slots-are h sets in (
       c .before .before .closed .ensures .0 ∙ answer (p .n) (most s) page (later k) (k .node .result) ps (room s) each laid ∙ ap (λ (n : ℕ). listedAs (pageOf (length page / n) ps)) (sym n),
       c .before .before .closed .ensures .1 ∙ bytes (p .n) (most s) page (later k) (k .node .result) ps (room s) each laid ∙ ap (λ (n : ℕ). pageBytes (length page) (pageOf (length page / n) ps)) (sym n),
@@ -139,7 +118,6 @@ list-spec =
     tie.close
     (tie.spec
     div-cap
-    put-parts-requires
     array-set-from-trail
     begun-requires
     node-requires
