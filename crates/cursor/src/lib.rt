@@ -6,42 +6,42 @@ ghost use Rattle.meaning.specs.File.{little, signed};
 ghost use Rattle.cursor.specs.Twos.{twos_of};
 
 // A place in the file. Each method hands back what stands there with the next place.
-#[derive(Drop)]
+#[derive(Clone, Copy)]
 pub struct Cursor {
     pub at: usize,
 }
 
-#[derive(Drop)]
+#[derive(Clone, Copy)]
 pub struct ByteAt {
     pub value: u8,
     pub next: Cursor,
 }
 
-#[derive(Drop)]
+#[derive(Clone, Copy)]
 pub struct SetAt {
     pub value: u16,
     pub next: Cursor,
 }
 
-#[derive(Drop)]
+#[derive(Clone, Copy)]
 pub struct WordAt {
     pub value: u32,
     pub next: Cursor,
 }
 
-#[derive(Drop)]
+#[derive(Clone, Copy)]
 pub struct IntAt {
     pub value: i32,
     pub next: Cursor,
 }
 
-#[derive(Drop)]
+#[derive(Clone, Copy)]
 pub struct SetsAt {
     pub value: [u16; 24],
     pub next: Cursor,
 }
 
-#[derive(Drop)]
+#[derive(Clone, Copy)]
 pub struct WeightsAt {
     pub value: [i32; 24],
     pub next: Cursor,

@@ -18,7 +18,7 @@ use problem::Problem;
 use slot::WEIGHTS;
 
 // A refusal's number or 0; is there a bound, the bound; exact or open.
-#[derive(Drop)]
+#[derive(Clone, Copy)]
 pub struct Bound {
     pub number: u32,
     pub present: bool,

@@ -12,7 +12,7 @@ ghost use Rattle.judge.specs.Answers.{having, Steps, RightCoefs, judged_as, choi
 use problem::{Problem, ROW};
 
 // What the judge says: a refusal's number with no and 0, or 0 with lawful or not and the cost, 0 if unlawful.
-#[derive(Drop)]
+#[derive(Clone, Copy)]
 pub struct Judged {
     pub number: u32,
     pub lawful: bool,
@@ -20,7 +20,7 @@ pub struct Judged {
 }
 
 // Which of two plans is handed back.
-#[derive(Drop)]
+#[derive(Clone, Copy)]
 pub enum Which {
     EmptyStart,
     Standing,

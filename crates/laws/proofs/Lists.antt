@@ -197,8 +197,9 @@ module _ {A : Type 0} where
       go false e r i = r i
 
   pub every_in : (f : A → Bool) {v : A} (l : List A) → every f l ≡ true → In v l → f v ≡ true
-  every_in f (x ∷ l) e here = and_l (f x) (every f l) e
-  every_in f (x ∷ l) e (there i) = every_in f l (and_r (f x) (every f l) e) i
+  every_in f {v} [] e i = elim i [ ]
+  every_in f {v} (x ∷ l) e here = and_l (f x) (every f l) e
+  every_in f {v} (x ∷ l) e (there i) = every_in f l (and_r (f x) (every f l) e) i
 
   pub in_every : (f : A → Bool) (l : List A) → ((x : A) → In x l → f x ≡ true) → every f l ≡ true
   in_every f [] h = refl

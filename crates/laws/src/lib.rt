@@ -1,1 +1,3 @@
+#![tactic(auto)]
+
 // Laws and functions that the other crates cite: no code.

@@ -15,8 +15,8 @@ use Rattle.laws.proofs.Each.{Each, each_at}
 use Rattle.meaning.specs.Plan.{Campaign}
 use Rattle.meaning.specs.Filter.{Numbers, up_node, each_parent, test_arc}
 use Rattle.meaning.specs.Buffers.{layer_cells as cells_of}
-use Rattle.lent.specs.Lanes.{zipped}
-use Rattle.lent.specs.Passes.{Bytes, raise_layer, node_lanes, down_lanes, room_lanes, down_cells, up_cells, test_layer, layer_cells}
+use Rattle.lent.specs.Lanes.{zipped, lanes_at}
+use Rattle.lent.specs.Passes.{Bytes, raise_layer, raise_node, nowhere, node_lanes, down_lanes, room_lanes, down_cells, up_cells, test_layer, layer_cells}
 use Rattle.lent.specs.Vec.{vec, slot_vec, row_vec, test_of, limit_vec}
 use Rattle.lent.specs.Small.{Small, Fit}
 use Rattle.lent.proofs.Fit.{up_fit}
@@ -30,10 +30,16 @@ pub padded_places : {A : Type 0} (n : ℕ) (z : A) (l : List A) → padded n z l
 padded_places n z l =
     sym (rw (length-padded z n l) at (map_places (λ j. get_or l j z) (padded n z l) z (λ j h. sym (padded_at n z l j (rw (length-padded z n l) at h)))))
 
+-- two lists with equal heads and equal tails
+cons_both : {A : Type 0} {x y : A} {l m : List A} → x ≡ y → l ≡ m → x ∷ l ≡ y ∷ m
+cons_both {l = l} {m = m} e f = rw (e, f) refl
+
 -- what is read of the cells of node j, while only its down numbers are known
 pub reads_down : (q : Campaign) → Small q → (h : ℕ) → h ≤ 24 → (ds : List Numbers) → Each (Fit q h) ds → (j : ℕ) → j < 16
     → down_lanes (length q.rules) (down_cells (length q.rules) (row_vec ds) j) ≡ vec (get_or ds j none)
-reads_down q s h few ds f j l = rw (row_at ds j l) (down_lanes_lem q s h few (get_or ds j none) (each_at (Fit q h) ds j none tt f))
+reads_down q s h few ds f j l =
+    let m = length q.rules in
+    ap (λ (d : List ℤ). down_lanes m (node_lanes m d (replicate 17 (pos 0)))) (row_at ds j l) ∙ down_lanes_lem q s h few (get_or ds j none) (each_at (Fit q h) ds j none tt f)
 
 -- the room that is reckoned from such cells
 room_there : (m : ℕ) (free : Bool) (limit c : List ℤ) {d : List ℤ} → eq_z (get_or c 0 (pos 0)) (pos 0) ≡ false → down_lanes m c ≡ d
@@ -51,7 +57,9 @@ room_cells q s h few free limit (some a) f =
 
 reads_room : (q : Campaign) → Small q → (h : ℕ) → h ≤ 24 → (free : Bool) (limit : List ℤ) (ds : List Numbers) → Each (Fit q h) ds → (j : ℕ) → j < 16
     → room_lanes (length q.rules) free limit (down_cells (length q.rules) (row_vec ds) j) ≡ room_vec free limit (get_or ds j none)
-reads_room q s h few free limit ds f j l = rw (row_at ds j l) (room_cells q s h few free limit (get_or ds j none) (each_at (Fit q h) ds j none tt f))
+reads_room q s h few free limit ds f j l =
+    let m = length q.rules in
+    ap (λ (d : List ℤ). room_lanes m free limit (node_lanes m d (replicate 17 (pos 0)))) (row_at ds j l) ∙ room_cells q s h few free limit (get_or ds j none) (each_at (Fit q h) ds j none tt f)
 
 -- ---- the up numbers over slot i, ahead of k slots
 pub layer_raises : (q : Campaign) → Small q → (i k : ℕ) → k < 24 → (us : List Numbers) → Each (Fit q k) us → (l : List (List ℕ)) → Each (λ bs. length bs ≤ 8) l → Each Bytes l
@@ -85,7 +93,10 @@ module _ (q : Campaign) (s : Small q) (i h k : ℕ) (few : h + 1 + k ≤ 24) (ds
       let d = get_or ds j none in
       let u = up_node q i us 0 bs in
       let cells = node_cells_lem q s h (suc k) (omega arith) (omega arith) d u (each_at (Fit q h) ds j none tt f) (up_fit q s k (suc k) (omega arith) i us g bs w.0) in
-      rw (reads_down q s h (omega arith) ds f j (omega arith), node_raises q s i k (suc k) (omega arith) (omega arith) us g bs w.0 b.0, cells, cells_from (suc j) l (omega arith) w.1 b.1)
+      let m = length q.rules in
+      let up = raise_node (slot_vec q i) (row_vec us) 0 bs nowhere in
+      cons_both (ap (λ (x : List ℤ). node_lanes m x up) (reads_down q s h (omega arith) ds f j (omega arith)) ∙ ap (node_lanes m (vec d)) (node_raises q s i k (suc k) (omega arith) (omega arith) us g bs w.0 b.0) ∙ cells)
+      (cells_from (suc j) l (omega arith) w.1 b.1)
 
   pub layer_cells_lem : (w : ℕ) → w ≤ 16 → (l : List (List ℕ)) → length l ≡ w → Each (λ bs. length bs ≤ 8) l → Each Bytes l
       → layer_cells (slot_vec q i) (row_vec us) (length q.rules) l (map (down_cells (length q.rules) (row_vec ds)) (from 0 w))
@@ -102,7 +113,10 @@ module _ (q : Campaign) (s : Small q) (h k : ℕ) (less : h ≤ 24) (few : k ≤
       let d = get_or ds j none in
       let u = get_or us j none in
       let cells = node_cells_lem q s h k less few d u (each_at (Fit q h) ds j none tt f) (each_at (Fit q k) us j none tt g) in
-      rw (reads_down q s h less ds f j (omega arith), row_at us j (omega arith), cells, row_cells_from (suc j) n (omega arith))
+      let m = length q.rules in
+      let up = lanes_at (row_vec us) (j * 17) in
+      cons_both (ap (λ (x : List ℤ). node_lanes m x up) (reads_down q s h less ds f j (omega arith)) ∙ ap (node_lanes m (vec d)) (row_at us j (omega arith)) ∙ cells)
+      (row_cells_from (suc j) n (omega arith))
 
   pub row_cells : (w : ℕ) → w ≤ 16
       → up_cells (length q.rules) (row_vec us) 0 (map (down_cells (length q.rules) (row_vec ds)) (from 0 w))

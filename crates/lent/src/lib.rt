@@ -1,1 +1,3 @@
+#![tactic(auto)]
+
 // Laws of diagrams in lent buffers; no code.

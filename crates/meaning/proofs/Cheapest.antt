@@ -27,6 +27,7 @@ module _ (q : Campaign) where
       go false f = let less : costs_less q c x ≡ true = omega zarith in inl (omega zarith, sym (cond_first (costs_less q c x) (some c) (some x) less) ∙ e)
 
   pub some_cheapest : (ps : List (List ℕ)) {p : List ℕ} → In p ps → cheapest q ps ≡ none → ⊥
+  some_cheapest [] {p = p} i e = elim i [ ]
   some_cheapest (x ∷ ps) i e = go (cheapest q ps) e
     where
       go : (o : Option (List ℕ)) → cheaper q x o ≡ none → ⊥

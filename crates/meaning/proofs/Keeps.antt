@@ -81,7 +81,7 @@ ups_cover q i (l ∷ ls) k (v ∷ p) e =
     let z = prices q (suc i) p in
     let h = up_node_lem q i us (get_or l k []) 0 v n.to _ _ n.byte (ups_cover q (suc i) ls n.to p n.on) in
     let e : y +ℤ z ≡ z +ℤ y = omega (zarith, sum y z, sum z y) in
-    rw (ListN.get_or_map (up_node q i us 0) l k [], totals_step q.rules i v p, e) (rw zero-add at h)
+    rw (ListN.get_or-map (up_node q i us 0) l k [], totals_step q.rules i v p, e) (rw zero-add at h)
 
 -- ---- down numbers cover the way so far
 module _ (q : Campaign) (i j : ℕ) where

@@ -269,8 +269,8 @@ arrive_kept {t} c (later {n = n} {ns = ns} h) = go (eq_state c.0 n.0) h (arrive_
 
 distinct_kept : {t : State} {seen : List Node} (os : List (Option Node)) → Has t seen → Has t (distinct seen os)
 distinct_kept [] h = h
-distinct_kept (none ∷ os) h = distinct_kept os h
-distinct_kept (some c ∷ os) h = distinct_kept os (arrive_kept c h)
+distinct_kept {t = t} {seen = seen} (none ∷ os) h = distinct_kept {t = t} {seen = seen} os h
+distinct_kept {t = t} {seen = seen} (some c ∷ os) h = distinct_kept {t = t} {seen = arrive c seen} os (arrive_kept c h)
 
 distinct_has : (c : Node) (seen : List Node) {os : List (Option Node)} → In (some c) os → Has c.0 (distinct seen os)
 distinct_has c seen (here {l = os}) = distinct_kept os (arrive_has c seen)

@@ -1,1 +1,3 @@
+#![tactic(auto)]
+
 // Every definition that a reader must believe: no code.

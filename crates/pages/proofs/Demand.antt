@@ -93,6 +93,7 @@ module _ (q : Campaign) (c : ℤ) where
 -- ---- a call that is served
 -- of the first k of a list
 in_take : {A : Type 0} {x : A} (k : ℕ) (l : List A) → In x (take k l) → In x l
+in_take {A = A} zero l i = elim i [ ]
 in_take (suc k) [] i = i
 in_take (suc k) (y ∷ l) i = in_either (λ v. In v (y ∷ l)) here (λ j. there (in_take k l j)) i
 

@@ -9,7 +9,7 @@ ghost use Rattle.pages.specs.Answers.{counted_as};
 use problem::Problem;
 
 // A refusal's number or 0; how many plans stand on the page, and whether there are more.
-#[derive(Drop)]
+#[derive(Clone, Copy)]
 pub struct Count {
     pub number: u32,
     pub count: usize,

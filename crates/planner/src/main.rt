@@ -14,14 +14,14 @@ const WEIGHTS: [i32; 5] = [-5, -4, -2, -6, -8];
 const PAIRS: [[usize; 2]; 6] = [[0, 1], [0, 4], [1, 2], [1, 3], [2, 3], [3, 4]];
 
 // What the problem has for each slot.
-#[derive(Drop)]
+#[derive(Clone, Copy)]
 struct Slots {
     sets: [u16; 24],
     weights: [i32; 24],
 }
 
 // What the problem has for each rule. There are no coefficients, and every lb is 0.
-#[derive(Drop)]
+#[derive(Clone, Copy)]
 struct Rules {
     kinds: [u8; 8],
     values: [u16; 8],

@@ -14,7 +14,7 @@ pub const STEPS: usize = 8;
 pub const ROW: usize = 24;
 
 // Rule k's coefficient of slot i stands at k * ROW + i. Entries at n and m and above, and fields that a rule's kind lacks, say nothing.
-#[derive(Drop)]
+#[derive(Clone, Copy)]
 pub struct Problem {
     pub n: usize,
     pub m: usize,

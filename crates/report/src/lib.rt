@@ -20,7 +20,7 @@ const CEILING: i32 = 2000000;
 // Room for more than the longest line, a primal of 24 slots, which has 70 bytes.
 const ROOM: usize = 80;
 
-#[derive(Drop)]
+#[derive(Clone, Copy)]
 struct Line {
     bytes: [u8; 80],
     len: usize,

@@ -315,7 +315,7 @@ fn rooms(m: usize, w: usize, free: bool, limit: &[i32], cells: &[i32], room: &mu
 }
 
 // A node's up numbers, and whether an arc of it fell.
-#[derive(Drop)]
+#[derive(Clone, Copy)]
 struct Raised {
     up: [i32; 17],
     fell: bool,

@@ -13,14 +13,14 @@ use problem::{Problem, ROW};
 pub const MARK: [u8; 3] = *b"RTP";
 
 // What a plan file says: number 0 and the problem, or the number of its first fault and a problem that is all zero.
-#[derive(Drop)]
+#[derive(Clone, Copy)]
 pub struct Reading {
     pub number: u32,
     pub problem: Problem,
 }
 
 // A rule's fields beside its coefficients, which go to the lent table.
-#[derive(Drop)]
+#[derive(Clone, Copy)]
 pub struct RuleAt {
     pub number: u32,
     pub kind: u8,
@@ -32,7 +32,7 @@ pub struct RuleAt {
 }
 
 // The rules' fields beside their coefficients.
-#[derive(Drop)]
+#[derive(Clone, Copy)]
 pub struct RulesAt {
     pub number: u32,
     pub kinds: [u8; 8],

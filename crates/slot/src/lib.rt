@@ -42,7 +42,7 @@ fn value_part(kind: u8, values: u16, slots: u32, i: usize) -> u16
 }
 
 // What the rules count in a slot: of each a coefficient and a set of values; zero past the rules.
-#[derive(Drop)]
+#[derive(Clone, Copy)]
 pub struct Parts {
     pub coefs: [i32; 8],
     pub values: [u16; 8],

@@ -7,14 +7,14 @@ ghost use Rattle.meaning.specs.Diagram.{merged, merged_state, eq_state};
 ghost use Rattle.state.specs.Pairs.{pair_of, pairs, Inside, added, lessened, fits_in, pairs_at, shares_at, unpaired, key_of, bucket_in};
 
 // A rule's low, and its high with the sign turned.
-#[derive(Drop)]
+#[derive(Clone, Copy)]
 pub struct Pair {
     pub lo: i32,
     pub hi: i32,
 }
 
 // A pair for each of eight rules; those that a problem lacks have zeros.
-#[derive(Drop)]
+#[derive(Clone, Copy)]
 pub struct State {
     pub at: [Pair; 8],
 }

@@ -181,7 +181,7 @@ pub fn zero_bytes(page: &mut [u8])
 }
 
 // How many plans stand on the page, and whether a further one exists.
-#[derive(Drop)]
+#[derive(Clone, Copy)]
 pub struct Listed {
     pub count: usize,
     pub more: bool,
