@@ -1,12 +1,14 @@
 // The planner: reads a plan file from standard input and prints its bounds and its lawful plans.
 // Where the input is empty it runs the case that is built in.
+#![tactic(auto)]
+
 ghost use Rattle.std.specs.Prelude.{◌≡◌, ◌+◌, ◌^◌, ◌<◌};
 ghost use Rattle.meaning.specs.Problem.{version1};
 ghost use Rattle.problem.specs.Held.{held, fault_in};
 ghost use Rattle.planner.specs.Sample.{Slotted, Ruled, case_a};
 
-use libc::STDIN_FILENO;
 use problem::Problem;
+use std::io;
 
 // ---- case A: five slots, and at most one step 1 in each of six pairs of them
 const WEIGHTS: [i32; 5] = [-5, -4, -2, -6, -8];
@@ -103,12 +105,12 @@ fn sample() -> Problem
 }
 
 // No accepted file is longer than 583 bytes, so that the first 4,096 decide.
-fn main() {
-    let mut input = io::buffer();
-    let length = io::read_full(STDIN_FILENO, &mut input);
+fn main(rt: HostRuntime) -> io::Result<()> {
+    let mut input = [0u8; input::ROOM];
+    let length = input::fill(&mut rt.reader(), &mut input)?;
     if length == 0 {
-        report::report(sample());
+        report::report(&rt, sample())
     } else {
-        report::report_file(&input[..length]);
+        report::report_file(&rt, &input[..length])
     }
 }

@@ -1,13 +1,16 @@
 // What the planner prints for a problem or a plan file: both bounds, the lawful plans, and how many there are.
 // Each line goes out by one write as soon as it is known, and a write that fails ends the report.
+#![tactic(auto)]
+
 ghost use Rattle.std.specs.Prelude.{◌≡◌, ◌≤◌, length};
 ghost use Rattle.meaning.specs.Problem.{version1};
 ghost use Rattle.problem.specs.Held.{fault_in};
 
 use diagram::Bound;
-use libc::STDOUT_FILENO;
+use itoa::Buffer;
 use pages::Count;
 use problem::Problem;
+use std::io;
 
 // The program's own arguments.
 const WIDTH: u32 = 16;
@@ -55,9 +58,8 @@ impl Line {
     }
 
     fn number(self, x: u64) -> Line {
-        let mut digits = [0u8; 20];
-        let k = io::decimal(x, &mut digits);
-        self.word(&digits[..k])
+        let mut digits = Buffer::new();
+        self.word(digits.format(x).as_bytes())
     }
 
     fn signed(self, z: i32) -> Line {
@@ -98,19 +100,15 @@ impl Line {
         }
     }
 
-    // Writes what is gathered, all at once; false where that failed.
-    fn is_out(self) -> bool {
-        let len = self.len;
-        let bytes: &[u8] = &self.bytes;
-        if bytes.len() < len {
-            return false;
-        }
-        io::write_all(STDOUT_FILENO, &bytes[..len])
+    // Writes what is gathered, all at once; an error where a write failed.
+    fn is_out(self, rt: &impl Print) -> io::Result<()> {
+        let len = self.len.min(ROOM);
+        rt.write_all(&self.bytes[..len])
     }
 
     // The same with the line's end.
-    fn is_written(self) -> bool {
-        self.byte(b'\n').is_out()
+    fn is_written(self, rt: &impl Print) -> io::Result<()> {
+        self.byte(b'\n').is_out(rt)
     }
 }
 
@@ -120,15 +118,15 @@ fn wide(b: u8) -> u64 {
 
 // ---- the lines of a problem without fault: right arguments and buffers of the greatest need, so that no operation refuses
 // `dual 1 exact`
-fn says_dual(p: Problem, arcs: &mut [u8], cells: &mut [i32]) -> bool
+fn says_dual(rt: &impl Print, p: Problem, arcs: &mut [u8], cells: &mut [i32]) -> io::Result<()>
     requires { fault_in version1 p ≡ 0 }
 {
     let b = diagram::relaxed(p, WIDTH, ROUNDS, CEILING, arcs, cells);
-    Line::begun(b"dual ").bound(b).is_written()
+    Line::begun(b"dual ").bound(b).is_written(rt)
 }
 
 // `primal 1 exact 0 1 1 0`; no steps where there is no bound.
-fn says_primal(p: Problem, arcs: &mut [u8], cells: &mut [i32]) -> bool
+fn says_primal(rt: &impl Print, p: Problem, arcs: &mut [u8], cells: &mut [i32]) -> io::Result<()>
     requires { fault_in version1 p ≡ 0 }
 {
     let n = p.n;
@@ -136,25 +134,25 @@ fn says_primal(p: Problem, arcs: &mut [u8], cells: &mut [i32]) -> bool
     let b = diagram::restricted(p, WIDTH, arcs, cells, &mut plan);
     let line = Line::begun(b"primal ").bound(b);
     if b.present {
-        line.steps(&plan[..n]).is_written()
+        line.steps(&plan[..n]).is_written(rt)
     } else {
-        line.is_written()
+        line.is_written(rt)
     }
 }
 
 // `plan 10 0 0 1 1`
-fn says_plan(p: Problem, plan: &[u8]) -> bool
+fn says_plan(rt: &impl Print, p: Problem, plan: &[u8]) -> io::Result<()>
     requires { fault_in version1 p ≡ 0 }
 {
     let j = judge::judge_plan(p, plan);
     Line::begun(b"plan ")
         .signed(j.cost)
         .steps(plan)
-        .is_written()
+        .is_written(rt)
 }
 
 // A line for each of the first `count` plans that stand on the page.
-fn says_plans(p: Problem, count: usize, page: &[u8; 24000]) -> bool
+fn says_plans(rt: &impl Print, p: Problem, count: usize, page: &[u8; 24000]) -> io::Result<()>
     requires { fault_in version1 p ≡ 0 }
 {
     let n = p.n;
@@ -162,20 +160,18 @@ fn says_plans(p: Problem, count: usize, page: &[u8; 24000]) -> bool
     for k in 0..1000 {
         if k < count {
             let at = k * n;
-            if !says_plan(p, &plans[at..at + n]) {
-                return false;
-            }
+            says_plan(rt, p, &plans[at..at + n])?;
         }
     }
-    true
+    Ok(())
 }
 
 // `end 10`, or `more 1000` where a further plan exists.
-fn says_count(more: bool, count: usize) -> bool {
+fn says_count(rt: &impl Print, more: bool, count: usize) -> io::Result<()> {
     if more {
-        Line::begun(b"more ").number(count as u64).is_written()
+        Line::begun(b"more ").number(count as u64).is_written(rt)
     } else {
-        Line::begun(b"end ").number(count as u64).is_written()
+        Line::begun(b"end ").number(count as u64).is_written(rt)
     }
 }
 
@@ -198,40 +194,35 @@ fn first_page(p: Problem, arcs: &mut [u8], cells: &mut [i32], page: &mut [u8]) -
 }
 
 // The plans of that page, and their count.
-fn says_page(p: Problem, arcs: &mut [u8], cells: &mut [i32]) -> bool
+fn says_page(rt: &impl Print, p: Problem, arcs: &mut [u8], cells: &mut [i32]) -> io::Result<()>
     requires { fault_in version1 p ≡ 0 }
 {
     let mut page = [0u8; 24000];
     let c = first_page(p, arcs, cells, &mut page);
-    if !says_plans(p, c.count, &page) {
-        return false;
-    }
-    says_count(c.more, c.count)
+    says_plans(rt, p, c.count, &page)?;
+    says_count(rt, c.more, c.count)
 }
 
-// Prints what the planner says of a problem; false where a write failed. Both bounds are out before the page is asked for.
-pub fn report(p: Problem) -> bool
+// Prints what the planner says of a problem; an error where a write failed, and then nothing more is printed. Both bounds are out before the page is
+// asked for.
+pub fn report(rt: &impl Print, p: Problem) -> io::Result<()>
     requires { fault_in version1 p ≡ 0 }
 {
     let mut arcs = [0u8; 3072];
     let mut cells = [0i32; 14000];
-    if !says_dual(p, &mut arcs, &mut cells) {
-        return false;
-    }
-    if !says_primal(p, &mut arcs, &mut cells) {
-        return false;
-    }
-    says_page(p, &mut arcs, &mut cells)
+    says_dual(rt, p, &mut arcs, &mut cells)?;
+    says_primal(rt, p, &mut arcs, &mut cells)?;
+    says_page(rt, p, &mut arcs, &mut cells)
 }
 
 // Prints what the planner says of a plan file: `refused 4`, or the report of its problem.
-pub fn report_file(file: &[u8]) -> bool {
+pub fn report_file(rt: &impl Print, file: &[u8]) -> io::Result<()> {
     let r = rtp::read(file);
     if r.number != 0 {
         return Line::begun(b"refused ")
             .number(r.number as u64)
-            .is_written();
+            .is_written(rt);
     }
     let p = r.problem;
-    report(p)
+    report(rt, p)
 }
