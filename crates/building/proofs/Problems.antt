@@ -196,12 +196,12 @@ module _ {p : Problem} {coefs : List ℤ} {values : List ℕ} {relax : Bool} {w 
 
       module _ {limit : State} {part : List ℕ} {count : ℕ} {one : Bool} {k : ℕ} (ek : limit ≡ lessened bounds (pairs_at table ((i + 1) * 17)))
           (eo : one ≡ (relax || eqb (i + 1) p.n)) (ep : k ≡ cond (eqb (i + 1) p.n) 1 w)
-          (Made_so : Made one k (map (arrival_at here row' (get_or values (192 + i) 0) limit) (from 0 (nodes * 8))) (take (i * (w * 8) + w * 8 - i * (w * 8)) (drop (i * (w * 8)) arcs)) part count) where
+          (made_so : Made one k (map (arrival_at here row' (get_or values (192 + i) 0) limit) (from 0 (nodes * 8))) (take (i * (w * 8) + w * 8 - i * (w * 8)) (drop (i * (w * 8)) arcs)) part count) where
         made : Made (relax || eqb (i + 1) p.n) (cond (eqb (i + 1) p.n) 1 w) (map (arrival_at here row' (get_or values (192 + i) 0) limit) (from 0 (nodes * 8))) (take (i * (w * 8) + w * 8 - i * (w * 8)) (drop (i * (w * 8)) arcs)) part count
         made =
             let xs = map (arrival_at here row' (get_or values (192 + i) 0) limit) (from 0 (nodes * 8)) in
             let bytes = take (i * (w * 8) + w * 8 - i * (w * 8)) (drop (i * (w * 8)) arcs) in
-            subst (λ (t : Bool). Made t (cond (eqb (i + 1) p.n) 1 w) xs bytes part count) eo (subst (λ (n : ℕ). Made one n xs bytes part count) ep Made_so)
+            subst (λ (t : Bool). Made t (cond (eqb (i + 1) p.n) 1 w) xs bytes part count) eo (subst (λ (n : ℕ). Made one n xs bytes part count) ep made_so)
 
         limit_is : limit ≡ lessened (padded 8 no_pair (bounds_in p)) (padded 8 no_pair (reaches (campaign_of p) (i + 1) (drop (i + 1) (campaign_of p).sets)))
         limit_is = ek ∙ (λ d. lessened (g.ends d) (g.reached.is (i + 1) (omega (arith, below)) d))

@@ -1,4 +1,6 @@
 // A diagram built layer by layer, relaxed or restricted.
+#![tactic(auto)]
+
 ghost use Rattle.std.specs.Prelude.{◌≡◌, map, ◌&&◌, ◌||◌, cond, min, ◌*◌, ◌≤◌, leb, length, replicate, pos};
 ghost use Rattle.laws.specs.Lists.{from, padded};
 ghost use Rattle.meaning.specs.Problem.{version1};

@@ -1,4 +1,6 @@
 // The children of a layer's nodes: which of them have equal states and are one class.
+#![tactic(auto)]
+
 ghost use Rattle.std.specs.Prelude.{◌≡◌, [], ◌++◌, map, ◌+◌, ◌*◌, ◌<◌, ◌≤◌, length, drop};
 ghost use Rattle.laws.specs.Lists.{from};
 ghost use Rattle.meaning.specs.Diagram.{distinct};

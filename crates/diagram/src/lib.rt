@@ -1,4 +1,6 @@
 // The relaxed and the restricted diagram of a problem: refusals, both buffers, the bound, the plan shown.
+#![tactic(auto)]
+
 ghost use Rattle.std.specs.Prelude.{◌≡◌, [], ◌++◌, false, not, ◌+◌, ◌*◌, ◌≤◌, length, get_or, drop, pos};
 ghost use Rattle.laws.specs.Z.{Within, eq_z};
 ghost use Rattle.meaning.specs.Problem.{version1};

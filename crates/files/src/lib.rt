@@ -1,4 +1,6 @@
 // Every operation from a plan file, for any bytes. Reading alone is `rtp::read`.
+#![tactic(auto)]
+
 ghost use Rattle.std.specs.Prelude.{◌≡◌, []};
 ghost use Rattle.meaning.specs.Calls.{judge, better, relaxed_call, restricted_call, page_call};
 ghost use Rattle.judge.specs.Answers.{judged_as};

@@ -1,4 +1,6 @@
 // The guard on running numbers: one test of the problem alone.
+#![tactic(auto)]
+
 ghost use Rattle.std.specs.Prelude.{◌≡◌, [], ◌∷◌, ◌+◌, ◌≤◌, ◌<◌, nat_abs, length, take, drop};
 ghost use Rattle.meaning.specs.Plan.{steps_of};
 ghost use Rattle.meaning.specs.Problem.{step_count, among, share_of, first_fault};

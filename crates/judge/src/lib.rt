@@ -1,4 +1,6 @@
 // The judge of one plan of a problem without fault, and the better of two.
+#![tactic(auto)]
+
 ghost use Rattle.std.specs.Prelude.{◌≡◌, ◌+◌, ◌≤◌, length, take, drop};
 ghost use Rattle.laws.specs.Lists.{every};
 ghost use Rattle.laws.specs.Z.{Within};

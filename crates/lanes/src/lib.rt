@@ -1,4 +1,6 @@
 // A node's numbers in one direction as lanes: each rule's low, each rule's high with its sign turned, the cost. Least and sum go lane by lane.
+#![tactic(auto)]
+
 ghost use Rattle.std.specs.Prelude.{◌≡◌, ◌+◌, ◌<◌, ◌≤◌, length};
 ghost use Rattle.std.proofs.Math.Seq.{paste};
 ghost use Rattle.laws.specs.Z.{Within, min_z};

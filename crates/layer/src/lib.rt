@@ -1,4 +1,6 @@
 // The places of a layer's classes: the bytes of the arcs.
+#![tactic(auto)]
+
 ghost use Rattle.std.specs.Prelude.{◌≡◌, map, ◌≤◌};
 ghost use Rattle.meaning.specs.Diagram.{place_byte};
 ghost use Rattle.layer.specs.Places.{builder_of, placed};

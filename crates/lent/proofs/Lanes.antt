@@ -13,7 +13,7 @@ use Rattle.laws.specs.Lists.{padded}
 use Rattle.laws.proofs.Lists.{and_both, and_true, and_false}
 use Rattle.laws.proofs.Filled.{length-padded, each_padded}
 use Rattle.laws.proofs.Each.{Each, each_append}
-use Rattle.lent.specs.Lanes.{zipped, sums, at_most}
+use Rattle.lent.specs.Lanes.{zipped, at_most}
 
 -- ---- eight lanes, eight lanes, and one more
 abbrev pub block : ℤ → List ℤ → List ℤ → ℤ → List ℤ

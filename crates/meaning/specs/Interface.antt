@@ -8,7 +8,7 @@ use Rattle.meaning.specs.Filter.{relaxed_arcs}
 use Rattle.meaning.specs.Page.{page, page_bytes}
 use Rattle.meaning.specs.File.{read_of}
 use Rattle.meaning.specs.Running.{relaxed_numbers, restricted_numbers}
-use Rattle.meaning.specs.Calls.{Bound, Count, Done, Lent, Choice, empty_start, standing, new, unless, guarded, opened, wrong_width, wrong_numbers, wrong_start, short_diagram, short_plan, judged, better, relaxed_done, restricted_done, holding}
+use Rattle.meaning.specs.Calls.{Bound, Done, Lent, Choice, empty_start, standing, new, unless, guarded, opened, wrong_width, wrong_numbers, wrong_start, short_diagram, short_plan, judged, better, relaxed_done, restricted_done, holding}
 
 -- "returns the refusal number (0: accepted)", and what stands in the buffers then
 pub record Told : Type 0 where

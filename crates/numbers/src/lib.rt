@@ -1,4 +1,6 @@
 // The numbers of all nodes of any arcs, into the cells; a round and the closing sweep, which drop the arcs that fail their test.
+#![tactic(auto)]
+
 ghost use Rattle.std.specs.Prelude.{◌≡◌, true, ◌⊎◌, [], ◌∷◌, ◌+◌, ◌*◌, ◌<◌, ◌≤◌, length, replicate, pos};
 ghost use Rattle.std.proofs.Math.Option.{some};
 ghost use Rattle.laws.specs.Z.{Within};

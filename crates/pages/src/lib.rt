@@ -1,4 +1,6 @@
 // A page of lawful plans of a problem: refusals, the relaxed diagram that it builds in the lent buffers, the walk along it.
+#![tactic(auto)]
+
 ghost use Rattle.std.specs.Prelude.{◌≡◌, false};
 ghost use Rattle.meaning.specs.Problem.{version1};
 ghost use Rattle.meaning.specs.Calls.{page_on};

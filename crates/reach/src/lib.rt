@@ -1,4 +1,6 @@
 // The reach: for each rule and layer, the least and greatest total that the slots from there on can add.
+#![tactic(auto)]
+
 ghost use Rattle.std.specs.Prelude.{◌≡◌, length, ◌<◌};
 ghost use Rattle.laws.specs.Z.{Within};
 ghost use Rattle.laws.proofs.Each.{Each};

@@ -215,7 +215,8 @@ pub fn report(rt: &impl Print, p: Problem) -> io::Result<()>
     says_page(rt, p, &mut arcs, &mut cells)
 }
 
-// Prints what the planner says of a plan file: `refused 4`, or the report of its problem.
+// Prints what the planner says of a plan file: `refused 4`, or the report of its problem; an error where a write failed, and then nothing more is
+// printed.
 pub fn report_file(rt: &impl Print, file: &[u8]) -> io::Result<()> {
     let r = rtp::read(file);
     if r.number != 0 {

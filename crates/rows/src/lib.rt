@@ -1,4 +1,6 @@
 // One layer's numbers from its neighbour's, along any arcs: down to the layer below, up from it with the test of each arc, and a node's cells.
+#![tactic(auto)]
+
 ghost use Rattle.std.specs.Prelude.{◌≡◌, [], ◌∷◌, ◌++◌, map, true, cond, not, ◌&&◌, ◌||◌, ◌+◌, ◌*◌, ◌-◌, ◌≤◌, length, take, drop, replicate, pos};
 ghost use Rattle.laws.specs.Z.{Within};
 ghost use Rattle.laws.specs.Lists.{flat, from, parted, same};

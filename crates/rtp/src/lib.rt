@@ -1,4 +1,6 @@
 // The reader of plan files: a cursor by value, the first fault in file order, or the problem by value.
+#![tactic(auto)]
+
 ghost use Rattle.std.specs.Prelude.{◌≡◌, ◌+◌, ◌*◌, ◌≤◌, length, take, drop, replicate, pos};
 ghost use Rattle.laws.specs.Lists.{same};
 ghost use Rattle.meaning.specs.Problem.{version1};

@@ -1,4 +1,6 @@
 // What the rules count in each slot, gathered once for a problem; one slot's shares and prices, reckoned once for a layer.
+#![tactic(auto)]
+
 ghost use Rattle.std.specs.Prelude.{◌≡◌, ◌*◌, ◌<◌, ◌≤◌, pos, length, get_or, take, drop, replicate};
 ghost use Rattle.laws.specs.Z.{Within};
 ghost use Rattle.laws.proofs.Each.{Each};

@@ -1,5 +1,7 @@
 // A node's state by value: one pair of running totals for every rule, low and high, compared and merged place by place.
 // The high stands with its sign turned, so that both ends of a pair merge and are tested alike: the least of both, at most the limit's.
+#![tactic(auto)]
+
 ghost use Rattle.std.specs.Prelude.{◌≡◌, ◌+◌, ◌<◌, ◌≤◌, length};
 ghost use Rattle.std.proofs.Math.Seq.{paste};
 ghost use Rattle.laws.specs.Z.{Within, min_z};

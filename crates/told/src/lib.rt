@@ -1,4 +1,6 @@
 // What C is told: an answer as whole numbers in the cells of `out`, and how much of a lent buffer an operation gets.
+#![tactic(auto)]
+
 ghost use Rattle.std.specs.Prelude.{◌≡◌, [], ◌∷◌, cond, ◌≤◌, length, set, pos};
 ghost use Rattle.laws.specs.Lists.{padded};
 ghost use Rattle.meaning.specs.Interface.{most_page, used_page};
