@@ -9,7 +9,7 @@ use lib.Dec.{ltb}
 use lib.ListN.{length, get_or, set, take, drop, replicate, length-drop}
 use lib.IntN.{pos, negsuc}
 use lib.Seq.{get_or-drop, drop-drop, paste}
-use Rattle.laws.specs.Lists.{same, parted, padded}
+use Rattle.laws.specs.Lists.{parted, padded}
 use Rattle.laws.proofs.Filled.{padded_none, padded_paste, paste_field}
 use Rattle.laws.proofs.Parts.{length_fields}
 use Rattle.meaning.specs.File.{little, below_half, signed}

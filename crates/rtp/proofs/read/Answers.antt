@@ -1,5 +1,4 @@
 -- `read` meets its contract: the head field by field, then what stands behind it.
-use borrow.Author.Rules.{rules}
 use mathlib.Core.Bool.{true}
 use mathlib.Core.Path.{◌≡◌, sym, ap, ◌∙◌}
 use native.Mathlib.Omega.{arith}

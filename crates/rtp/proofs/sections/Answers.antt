@@ -1,5 +1,4 @@
 -- `sections` meets its contract: each section is what the definition reads there, and each return follows by the tests that led there.
-use borrow.Author.Rules.{rules}
 use mathlib.Core.Bool.{true}
 use mathlib.Core.Path.{◌≡◌, refl, sym, ap, subst, ◌∙◌}
 use mathlib.Core.List.{List, map}
