@@ -4,3 +4,5 @@ pub mod Each
 pub mod Parts
 pub mod Left
 pub mod Filled
+pub mod Chains
+pub mod Reached
