@@ -1,2 +1,3 @@
 -- Laws that only proofs cite.
 pub mod Steps
+pub mod Guarded

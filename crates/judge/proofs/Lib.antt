@@ -1,4 +1,3 @@
 -- Laws that only proofs cite.
 pub mod Sums
 pub mod Lawful
-pub mod Better

@@ -1,23 +1,16 @@
 -- What do the judge's answers say in the paper's words?
-use Rattle.std.specs.Prelude.{◌≡◌, List, ℕ, ◌≤◌, ◌<◌, length, ℤ}
-use Rattle.laws.specs.Z.{Within}
+use Rattle.std.specs.Prelude.{List, ℕ, ◌≤◌, ◌<◌, true, false, length, ℤ, pos, Option, Some, None}
 use Rattle.laws.proofs.Each.{Each}
 use Rattle.meaning.specs.Problem.{step_count, most_slots}
 use Rattle.meaning.specs.Calls.{Choice, empty_start, standing, new}
 use Rattle.meaning.specs.Calls as paper
-use Rattle.problem.specs.declared.Problem.{Problem}
-use Rattle.judge.specs.declared.Judged.{Judged}
 use Rattle.judge.specs.declared.Which.{Which}
 use Rattle.judge.specs.declared.Which.TheVariants.{EmptyStart, Standing, New}
 
--- the problem that has these numbers and arrays
-abbrev pub having : ℕ → ℕ → List ℕ → List ℤ → List ℕ → List ℕ → List ℕ → List ℤ → List ℤ → List ℤ → Problem
-having n m sets weights kinds values slots coefs lb ub =
-    record { n = n; m = m; sets = sets; weights = weights; kinds = kinds; values = values; slots = slots; coefs = coefs; lb = lb; ub = ub }
-
--- number, lawful or not, cost
-abbrev pub judged_as : paper.Judged → Judged
-judged_as j = record { number = j.number; lawful = j.lawful; cost = j.cost }
+-- a cost is that of a lawful plan; no cost is beside an unlawful one, with 0
+abbrev pub judged_as : Option ℤ → paper.Judged
+judged_as (Some c) = record { number = 0; lawful = true; cost = c }
+judged_as None = record { number = 0; lawful = false; cost = pos 0 }
 
 -- which slice each case hands back
 abbrev pub choice_of : Which → Choice
@@ -29,7 +22,3 @@ choice_of New = new
 pub record Steps (p : List ℕ) : Type 0 where
   pub count : length p ≤ most_slots
   pub below : Each (λ v. v < step_count) p
-
--- the coefficients of a sum rule are within their range
-abbrev pub RightCoefs : ℕ → List ℤ → Type 0
-RightCoefs kind c = kind ≡ 2 → Each (Within 1000) c

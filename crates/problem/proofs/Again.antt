@@ -10,19 +10,20 @@ use Rattle.laws.specs.Z.{zarith, parts}
 use Rattle.laws.specs.Lists.{every, padded}
 use Rattle.laws.proofs.Lists.{get_or_map}
 use Rattle.laws.proofs.Each.{Each, each_at, each_every}
-use Rattle.laws.proofs.Filled.{take-padded, length-padded, get_or-padded, map_places, every_places, row_padded}
+use Rattle.laws.proofs.Filled.{take-padded, get_or-padded, map_places, every_places}
 use Rattle.laws.proofs.Parts.{length_fields}
-use Rattle.meaning.specs.Problem.{Terms, among, sums, Said, Format, version1, size, right_head, right_set, right_rule, first_fault, fault_of}
+use Rattle.meaning.specs.Problem.{among, sums, Said, Format, version1, size, right_head, right_set, right_rule, first_fault, fault_of}
 use Rattle.meaning.specs.Problem as paper
 use Rattle.meaning.specs.File.{got, read_of, little, signed}
 use Rattle.meaning.proofs.Faultless.{range_test, nonzero_test, each_size, RightLead, RightFields, fields_test}
 use Rattle.meaning.proofs.Table.{Known, known1, slot_count, rule_count, sets_in, behind_sets, weights_in, problem_in, Kind, kind_among, kind_sum, Rules, no_rules, rule_first, RulesRight, Accepted, accepted}
 use Rattle.meaning.proofs.Rows.{accepted_when}
-use Rattle.problem.specs.Held.{terms_of, said_at, said, right_kind, right_at, fault_in, kind_of, values_of, slots_of, coefs_of, each_rule, rows, held}
+use Rattle.problem.specs.declared.Terms.TheVariants.{Neither}
+use Rattle.problem.specs.Held.{said_terms, said_at, said, no_bounds, right_kind, right_at, fault_in, terms_of, bounds_of, held}
 
 -- ---- what the form by value has room for
 -- a coefficient for each slot
-abbrev pub FitsTerms : ℕ → Terms → Type 0
+abbrev pub FitsTerms : ℕ → paper.Terms → Type 0
 FitsTerms n (among s t) = Unit {0}
 FitsTerms n (sums c) = length c ≡ n
 
@@ -47,11 +48,11 @@ pub record Fits (q : paper.Problem) : Type 0 where
 abbrev no_rule : Said
 no_rule = record { terms = among 0 0; lb = pos 0; ub = pos 0; lead = pos 0 }
 
-known_kind : (t : Terms) → right_kind (kind_of t) ≡ true
+known_kind : (t : paper.Terms) → right_kind (terms_of t) ≡ true
 known_kind (among s t) = refl
 known_kind (sums c) = refl
 
-terms_again : (n : ℕ) (t : Terms) → n ≤ 24 → FitsTerms n t → terms_of (kind_of t) (values_of t) (slots_of t) (take n (padded 24 (pos 0) (coefs_of t))) ≡ t
+terms_again : (n : ℕ) (t : paper.Terms) → n ≤ 24 → FitsTerms n t → said_terms n (terms_of t) ≡ t
 terms_again n (among s t) h e = refl
 terms_again n (sums c) h e = rw (← e) (ap sums (take-padded (pos 0) 24 c (rw e h)))
 
@@ -66,30 +67,27 @@ module _ (q : paper.Problem) (fits : Fits q) where
     abbrev r : Said
     r = get_or rs k no_rule
 
-    -- its fields, its coefficients
-    field : {A : Type 0} (g : Said → A) (z : A) → get_or (each_rule g z rs) k z ≡ g r
+    -- its terms, its bounds
+    field : {A : Type 0} (g : Said → A) (z : A) → get_or (padded 8 z (map g rs)) k z ≡ g r
     field g z = get_or-padded 8 (map g rs) k z (omega (arith, length-map rs g, fits.count)) ∙ get_or_map g rs k no_rule z h
 
-    coefs : take n (drop (k * 24) (rows rs)) ≡ take n (padded 24 (pos 0) (coefs_of r.terms))
-    coefs =
-        row_padded (λ (x : Said). padded 24 (pos 0) (coefs_of x.terms)) 24 (λ x. length-padded (pos 0) 24 (coefs_of x.terms)) 192 (pos 0) rs k n no_rule (omega (arith, fits.count)) h fits.slots
+    terms : get_or (held q).terms k Neither ≡ terms_of r.terms
+    terms = field (λ x. terms_of x.terms) Neither
+
+    bounds : get_or (held q).bounds k no_bounds ≡ bounds_of r
+    bounds = field bounds_of no_bounds
 
     rule_fits : FitsRule n r
     rule_fits = each_at (FitsRule n) rs k no_rule (record { terms = tt; lead = refl }) fits.rules
 
-    kind : get_or (held q).kinds k 0 ≡ kind_of r.terms
-    kind = field (λ x. kind_of x.terms) 0
-
-    terms : terms_of (get_or (held q).kinds k 0) (get_or (held q).values k 0) (get_or (held q).slots k 0) (take n (drop (k * 24) (held q).coefs)) ≡ r.terms
-    terms =
-        (λ i. terms_of (kind i) (field (λ x. values_of x.terms) 0 i) (field (λ x. slots_of x.terms) 0 i) (coefs i))
-        ∙ terms_again n r.terms fits.slots rule_fits.terms
+    said_again : said_terms n (get_or (held q).terms k Neither) ≡ r.terms
+    said_again = ap (said_terms n) terms ∙ terms_again n r.terms fits.slots rule_fits.terms
 
     rule_again : said_at (held q) k ≡ r
-    rule_again = λ i. record { terms = terms i; lb = field (λ x. x.lb) (pos 0) i; ub = field (λ x. x.ub) (pos 0) i; lead = sym rule_fits.lead i }
+    rule_again = λ i. record { terms = said_again i; lb = (bounds i).lb; ub = (bounds i).ub; lead = sym rule_fits.lead i }
 
     test_again : (f : Format) → right_at f (held q) k ≡ right_rule f n r
-    test_again f = (λ i. right_kind (kind i) && right_rule f n (rule_again i)) ∙ ap (λ (b : Bool). b && right_rule f n r) (known_kind r.terms)
+    test_again f = (λ i. right_kind (terms i) && right_rule f n (rule_again i)) ∙ ap (λ (b : Bool). b && right_rule f n r) (known_kind r.terms)
 
   -- ---- the whole problem
   sets_again : (said (held q)).sets ≡ q.sets
@@ -112,7 +110,7 @@ module _ (q : paper.Problem) (fits : Fits q) where
 
 -- ---- a file
 -- no version has a lead-in other than zero
-lead_zero : {f : Format} → Known f → (t : Terms) (z : ℤ) → RightLead f t z → z ≡ pos 0
+lead_zero : {f : Format} → Known f → (t : paper.Terms) (z : ℤ) → RightLead f t z → z ≡ pos 0
 lead_zero known1 (among s t) z h = omega (zarith, parts z, h.0, h.1)
 lead_zero known1 (sums c) z h = omega (zarith, parts z, h.size)
 

@@ -1,2 +1,3 @@
--- What the struct means.
+-- What the structs mean.
 pub mod Held
+pub mod Checked

@@ -1,33 +1,63 @@
 // The problem by value: its ranges and faults, its steps, shares and prices.
 #![tactic(auto)]
 
-ghost use Rattle.std.specs.Prelude.{◌≡◌, ◌&&◌, ◌+◌, ◌*◌, ◌/◌, ◌^◌, ◌≤◌, ◌<◌, eqb, ℤ, pos, ◌*ℤ◌, length, take, drop};
+mod sound;
+
+ghost use Rattle.std.specs.Prelude.{◌≡◌, ◌&&◌, ◌/◌, ◌^◌, ◌≤◌, ◌<◌, eqb, pos, ◌*ℤ◌, zip};
+ghost use Rattle.std.specs.List.{list_all};
 ghost use Rattle.std.specs.Int.Signed.{le_z};
-ghost use Rattle.laws.specs.Lists.{every, from};
+ghost use Rattle.laws.specs.Lists.{every};
 ghost use Rattle.laws.specs.Z.{Within};
 ghost use Rattle.meaning.specs.Plan.{bit, allows};
-ghost use Rattle.meaning.specs.Problem.{step_count, version1, size, right_head, right_set, right_rule};
-ghost use Rattle.problem.specs.Held.{between, right_kind, rule_said, right_at, fault_in, Shares};
+ghost use Rattle.meaning.specs.Problem.{step_count, version1, size, right_head, right_set, right_terms};
+ghost use Rattle.problem.specs.Held.{said_terms, between, right_kind, right_one, fault_in, fault_told, IsSmallAt, Shares};
 
-// The number of steps: 0 to 7.
+use refusal::Refusal;
+pub use sound::Sound;
+
+// A problem has 1 to 24 slots and at most 8 rules; a step is 0 to 7; a layer has at most 16 nodes.
+pub const SLOTS: usize = 24;
+
+pub const RULES: usize = 8;
+
 pub const STEPS: usize = 8;
 
-// The places of a rule in the table of coefficients, one for each slot.
-pub const ROW: usize = 24;
+pub const WIDTH: usize = 16;
 
-// Rule k's coefficient of slot i stands at k * ROW + i. Entries at n and m and above, and fields that a rule's kind lacks, say nothing.
-#[derive(Clone, Copy)]
+// The greatest sizes.
+const WEIGHT: i32 = 10_000;
+
+const COEFFICIENT: i32 = 1_000;
+
+const BOUND: i32 = 200_000;
+
+// What a rule counts.
+#[derive(Clone, Copy, Debug, PartialEq, Eq)]
+pub enum Terms {
+    // The slots of a set whose step lies in `values`: bit i of `slots`, bit v of `values`.
+    Among { values: u16, slots: u32 },
+    // A coefficient for each slot, times its step.
+    Sum { coefs: [i32; SLOTS] },
+    // Another kind: a fault.
+    Neither,
+}
+
+// A rule's total lies from `lb` to `ub`.
+#[derive(Clone, Copy, Debug, PartialEq, Eq)]
+pub struct Bounds {
+    pub lb: i32,
+    pub ub: i32,
+}
+
+// Places at `slots` and at `rules` and above say nothing.
+#[derive(Clone, Copy, Debug)]
 pub struct Problem {
-    pub n: usize,
-    pub m: usize,
-    pub sets: [u16; 24],
-    pub weights: [i32; 24],
-    pub kinds: [u8; 8],
-    pub values: [u16; 8],
-    pub slots: [u32; 8],
-    pub coefs: [i32; 192],
-    pub lb: [i32; 8],
-    pub ub: [i32; 8],
+    pub slots: usize,
+    pub rules: usize,
+    pub sets: [u16; SLOTS],
+    pub weights: [i32; SLOTS],
+    pub terms: [Terms; RULES],
+    pub bounds: [Bounds; RULES],
 }
 
 // ---- the ranges
@@ -35,59 +65,38 @@ pub struct Problem {
 pub fn head_is_right(n: usize, m: usize) -> bool
     ensures { result ≡ right_head n m }
 {
-    if n < 1 {
-        return false;
-    }
-    if 24 < n {
-        return false;
-    }
-    m <= 8
+    1 <= n && n <= SLOTS && m <= RULES
 }
 
 // No set is zero.
 pub fn sets_are_right(sets: &[u16]) -> bool
     ensures { result ≡ every right_set sets.now }
 {
-    let mut i: usize = 0;
-    while i < sets.len() {
-        if sets[i] == 0 {
-            return false;
-        }
-        i += 1;
-    }
-    true
+    sets.iter().all(|&set| set != 0)
 }
 
-fn is_within(lo: i32, z: i32, hi: i32) -> bool
-    ensures { result ≡ between lo hi z }
+fn is_within(low: i32, z: i32, high: i32) -> bool
+    ensures { result ≡ between low high z }
 {
-    if lo <= z { z <= hi } else { false }
+    low <= z && z <= high
 }
 
-fn are_within(lo: i32, zs: &[i32], hi: i32) -> bool
-    ensures { result ≡ every (between lo hi) zs.now }
+fn are_within(low: i32, numbers: &[i32], high: i32) -> bool
+    ensures { result ≡ every (between low high) numbers.now }
 {
-    let mut i: usize = 0;
-    while i < zs.len() {
-        let z = zs[i];
-        if !is_within(lo, z, hi) {
-            return false;
-        }
-        i += 1;
-    }
-    true
+    numbers.iter().all(|&z| is_within(low, z, high))
 }
 
 pub fn weights_are_right(weights: &[i32]) -> bool
     ensures { result ≡ every (size 10000) weights.now }
 {
-    are_within(-10000, weights, 10000)
+    are_within(-WEIGHT, weights, WEIGHT)
 }
 
 pub fn coefs_are_right(coefs: &[i32]) -> bool
     ensures { result ≡ every (size 1000) coefs.now }
 {
-    are_within(-1000, coefs, 1000)
+    are_within(-COEFFICIENT, coefs, COEFFICIENT)
 }
 
 // No bit at n or above.
@@ -98,73 +107,67 @@ pub fn slots_are_right(slots: u32, n: usize) -> bool
     slots >> n == 0
 }
 
-// Both within 200,000, and lb not above ub.
-pub fn bounds_are_right(lb: i32, ub: i32) -> bool
-    ensures { result ≡ (size 200000 lb && size 200000 ub && le_z lb ub) }
-{
-    if !is_within(-200000, lb, 200000) {
-        return false;
-    }
-    if !is_within(-200000, ub, 200000) {
-        return false;
-    }
-    lb <= ub
-}
-
-// A rule's kind is 1 or 2, and the fields of that kind are right. Its n coefficients stand from `at` on.
-fn rule_is_right(n: usize, kind: u8, slots: u32, coefs: &[i32], at: usize, lb: i32, ub: i32) -> bool
-    requires { (n ≤ 24) × (at + n ≤ length coefs.now) }
-    ensures { result ≡ (right_kind kind && right_rule version1 n (rule_said kind 0 slots (take n (drop at coefs.now)) lb ub)) }
-{
-    if !bounds_are_right(lb, ub) {
-        return false;
-    }
-    match kind {
-        1 => slots_are_right(slots, n),
-        2 => coefs_are_right(&coefs[at..at + n]),
-        _ => false,
+impl Bounds {
+    // Both within 200,000, and lb not above ub.
+    pub fn are_right(self) -> bool
+        ensures { result ≡ (size 200000 self.lb && size 200000 self.ub && le_z self.lb self.ub) }
+    {
+        is_within(-BOUND, self.lb, BOUND) && is_within(-BOUND, self.ub, BOUND) && self.lb <= self.ub
     }
 }
 
-fn rules_are_right(p: Problem) -> bool
-    requires { (p.n ≤ 24) × (p.m ≤ 8) }
-    ensures { result ≡ every (right_at version1 p) (from 0 p.m) }
+// The terms are of one of the two kinds, and their fields are right.
+fn terms_are_right(n: usize, terms: &Terms) -> bool
+    requires { n ≤ 24 }
+    ensures { result ≡ right_kind terms.now && right_terms version1 n (said_terms n terms.now) }
 {
-    let n = p.n;
-    let mut k: usize = 0;
-    while k < p.m {
-        let kind = p.kinds[k];
-        let slots = p.slots[k];
-        let lb = p.lb[k];
-        let ub = p.ub[k];
-        if !rule_is_right(n, kind, slots, &p.coefs, k * ROW, lb, ub) {
-            return false;
+    match terms {
+        Terms::Among { slots, .. } => slots_are_right(*slots, n),
+        Terms::Sum { coefs } => coefs_are_right(&coefs[..n]),
+        Terms::Neither => false,
+    }
+}
+
+// The terms are right, and the bounds.
+fn rule_is_right(n: usize, terms: &Terms, bounds: Bounds) -> bool
+    requires { n ≤ 24 }
+    ensures { result ≡ right_one version1 n terms.now bounds }
+{
+    terms_are_right(n, terms) && bounds.are_right()
+}
+
+fn rules_are_right(n: usize, terms: &[Terms], bounds: &[Bounds]) -> bool
+    requires { n ≤ 24 }
+    ensures { result ≡ list_all (λ p. right_one version1 n p.0 p.1) (zip terms.now bounds.now) }
+{
+    terms
+        .iter()
+        .zip(bounds)
+        .all(|(terms, bounds)| rule_is_right(n, terms, *bounds))
+}
+
+impl Problem {
+    // The first fault that stands.
+    pub fn fault(&self) -> Option<Refusal>
+        ensures { fault_told result ≡ fault_in version1 self.now }
+    {
+        if !head_is_right(self.slots, self.rules) {
+            return Some(Refusal::WrongSize);
         }
-        k += 1;
+        if !sets_are_right(&self.sets[..self.slots])
+            || !weights_are_right(&self.weights[..self.slots])
+        {
+            return Some(Refusal::WrongSlot);
+        }
+        if !rules_are_right(
+            self.slots,
+            &self.terms[..self.rules],
+            &self.bounds[..self.rules],
+        ) {
+            return Some(Refusal::WrongRule);
+        }
+        None
     }
-    true
-}
-
-// 4, 5 or 6, the first that stands, else 0.
-pub fn fault_of(p: Problem) -> u32
-    ensures { result ≡ fault_in version1 p }
-{
-    let n = p.n;
-    if !head_is_right(n, p.m) {
-        return 4;
-    }
-    let sets: &[u16] = &p.sets;
-    if !sets_are_right(&sets[..n]) {
-        return 5;
-    }
-    let weights: &[i32] = &p.weights;
-    if !weights_are_right(&weights[..n]) {
-        return 5;
-    }
-    if !rules_are_right(p) {
-        return 6;
-    }
-    0
 }
 
 // ---- steps, shares, prices
@@ -172,11 +175,7 @@ pub fn fault_of(p: Problem) -> u32
 pub fn allows(set: u16, v: usize) -> bool
     ensures { result ≡ allows step_count set v }
 {
-    if v < STEPS {
-        (set >> v) % 2 == 1
-    } else {
-        false
-    }
+    v < STEPS && (set >> v) % 2 == 1
 }
 
 // An among rule counts the slot: it is named, and its step is in S.
@@ -184,22 +183,30 @@ pub fn counts(values: u16, slots: u32, i: usize, v: usize) -> bool
     requires { (i < 24) × (v < step_count) }
     ensures { result ≡ (bit values v && bit slots i) }
 {
-    if (values >> v) % 2 == 1 {
-        (slots >> i) % 2 == 1
-    } else {
-        false
-    }
+    (values >> v) % 2 == 1 && (slots >> i) % 2 == 1
 }
 
-// A rule's share of slot i and step v, where its coefficient of that slot is `coef`: the kind decides.
-pub fn share(kind: u8, values: u16, slots: u32, coef: i32, i: usize, v: usize) -> i32
-    requires { (i < 24) × (v < step_count) × (kind ≡ 2 → Within 1000 coef) }
-    ensures { Shares kind values slots coef i v result }
+// A coefficient times a step.
+fn times(coef: i32, v: usize) -> i32
+    requires { (v < step_count) × Within 1000 coef }
+    ensures { (result ≡ coef *ℤ pos v) × Within 7000 result }
 {
-    match kind {
-        1 => { if counts(values, slots, i, v) { 1 } else { 0 } }
-        2 => coef * (v as i32),
-        _ => 0,
+    coef * (v as i32)
+}
+
+impl Terms {
+    // The share of slot i and step v.
+    pub fn share(&self, i: usize, v: usize) -> i32
+        requires slot { i < 24 }
+        requires step { v < step_count }
+        requires coef { IsSmallAt self.now i }
+        ensures { Shares self.now i v result }
+    {
+        match self {
+            Terms::Among { values, slots } => i32::from(counts(*values, *slots, i, v)),
+            Terms::Sum { coefs } => times(coefs[i], v),
+            Terms::Neither => 0,
+        }
     }
 }
 

@@ -1,6 +1,5 @@
--- `counted` meets its contract: while no step is counted, the steps that are left have the greatest share of the whole set.
+-- While no step is counted, the steps that are left have the greatest share of the whole set.
 use mathlib.Core.Path.{◌≡◌}
-use Prim.Native.Nat.{◌-◌, ◌≤◌}
 use Rattle.meaning.specs.Plan.{steps_of}
 use Rattle.meaning.specs.Problem.{among, share_of}
 use Rattle.meaning.specs.Running.{greatest_size}
@@ -8,7 +7,4 @@ use Rattle.guard.proofs.Steps.{left}
 use Rattle.guard.proofs.counted.Given as goal
 
 abbrev pub invariant-loop-v : goal.invariant-loop-v
-invariant-loop-v l = let f = share_of (among l.values l.slots) l.i in (l.v ≤ 8) × (left f l.set l.v ≡ greatest_size f (steps_of 8 l.set))
-
-abbrev pub decreases-loop-v : goal.decreases-loop-v
-decreases-loop-v l = 8 - l.v
+invariant-loop-v l = let f = share_of (among l.values l.slots) l.i in left f l.set l.v ≡ greatest_size f (steps_of 8 l.set)
