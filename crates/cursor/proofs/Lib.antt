@@ -1,2 +1,2 @@
 -- Laws that the functions' proofs cite.
-pub mod Fields
+pub mod Filled

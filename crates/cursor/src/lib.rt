@@ -1,222 +1,196 @@
-// A place in a file, and the fields that stand there.
+// What stands next in a file, and the bytes behind it?
 #![tactic(auto)]
 
-ghost use Rattle.std.specs.Prelude.{◌≡◌, map, ◌+◌, ◌-◌, ◌*◌, ◌≤◌, ◌<◌, pos, length, take, drop};
-ghost use Rattle.std.proofs.Math.Seq.{paste};
+ghost use Rattle.std.specs.Prelude.{◌≡◌, List, ℕ, ◌*◌, ◌≤◌, pos, length, take, map, IfOk};
 ghost use Rattle.laws.specs.Lists.{parted, padded};
-ghost use Rattle.meaning.specs.File.{little, signed};
-ghost use Rattle.cursor.specs.Twos.{twos_of};
+ghost use Rattle.meaning.specs.File.{little, signed, part, fields_next};
+ghost use Rattle.cursor.specs.Fields.{got_of, field_next};
 
-// A place in the file. Each method hands back what stands there with the next place.
-#[derive(Clone, Copy)]
-pub struct Cursor {
-    pub at: usize,
+use refusal::Refusal;
+
+// A form of number: how many bytes it has, and which number they say.
+pub trait Form {
+    type Number: Copy;
+
+    ghost size: { ℕ };
+
+    ghost of_bytes: { List ℕ → Self.Number };
+
+    fn size() -> usize
+        ensures { result ≡ size };
+
+    fn of_bytes(bytes: &[u8]) -> Self::Number
+        requires { length bytes.now ≡ size }
+        ensures { result ≡ of_bytes bytes.now };
 }
 
-#[derive(Clone, Copy)]
-pub struct ByteAt {
-    pub value: u8,
-    pub next: Cursor,
+// A set of steps: one byte.
+pub struct Set;
+
+impl Form for Set {
+    type Number = u16;
+
+    ghost size = { 1 };
+
+    ghost of_bytes = { little };
+
+    fn size() -> usize {
+        1
+    }
+
+    fn of_bytes(bytes: &[u8]) -> u16 {
+        u16::from(bytes[0])
+    }
 }
 
-#[derive(Clone, Copy)]
-pub struct SetAt {
-    pub value: u16,
-    pub next: Cursor,
+// Two bytes with a sign.
+pub struct Half;
+
+impl Form for Half {
+    type Number = i32;
+
+    ghost size = { 2 };
+
+    ghost of_bytes = { signed 2 };
+
+    fn size() -> usize {
+        2
+    }
+
+    fn of_bytes(bytes: &[u8]) -> i32 {
+        i32::from(i16::from_le_bytes([bytes[0], bytes[1]]))
+    }
 }
 
-#[derive(Clone, Copy)]
-pub struct WordAt {
-    pub value: u32,
-    pub next: Cursor,
+// Four bytes with a sign.
+pub struct Whole;
+
+impl Form for Whole {
+    type Number = i32;
+
+    ghost size = { 4 };
+
+    ghost of_bytes = { signed 4 };
+
+    fn size() -> usize {
+        4
+    }
+
+    fn of_bytes(bytes: &[u8]) -> i32 {
+        i32::from_le_bytes([bytes[0], bytes[1], bytes[2], bytes[3]])
+    }
 }
 
-#[derive(Clone, Copy)]
-pub struct IntAt {
-    pub value: i32,
-    pub next: Cursor,
-}
-
-#[derive(Clone, Copy)]
-pub struct SetsAt {
-    pub value: [u16; 24],
-    pub next: Cursor,
-}
-
-#[derive(Clone, Copy)]
-pub struct WeightsAt {
-    pub value: [i32; 24],
-    pub next: Cursor,
-}
-
-fn wide(b: u8) -> u32
-    ensures { (result ≡ b) × (result < 256) }
+// n numbers of one form, in the first places of an array that is blank behind them.
+pub fn fields_of<F: Form, const N: usize>(
+    n: usize,
+    bytes: &[u8],
+    blank: F::Number,
+) -> [F::Number; N]
+    requires few { n ≤ N }
+    requires long { length bytes.now ≡ n * F.size }
+    ensures fields { take n result ≡ map F.of_bytes (parted n F.size bytes.now) }
+    ensures blank { result ≡ padded N blank (take n result) }
 {
-    b as u32
+    let size = F::size();
+    let mut fields = [blank; N];
+    for k in 0..n {
+        fields[k] = F::of_bytes(&bytes[k * size..k * size + size]);
+    }
+    fields
 }
 
-fn set_of(b: u8) -> u16
-    ensures { result ≡ b }
-{
-    b as u16
+// The bytes of a file from some place on. Each method hands back what stands there, with the cursor behind it.
+#[derive(Clone, Copy, Debug)]
+pub struct Cursor<'a> {
+    pub rest: &'a [u8],
 }
 
-// Two's complement, where `half` is half of what the bytes hold.
-fn twos(u: u32, half: u32) -> i32
-    requires { (u < 2 * half) × (1 ≤ half) × (half ≤ 2147483648) }
-    ensures { result ≡ twos_of half u }
-{
-    if u < half {
-        u as i32
-    } else {
-        !((half + (half - 1) - u) as i32)
-    }
-}
-
-impl Cursor {
-    // How many bytes stand from here on.
-    pub fn left(self, s: &[u8]) -> usize
-        ensures { result ≡ length s.now - self.at }
+impl<'a> Cursor<'a> {
+    // N bytes as an array.
+    pub fn array<const N: usize>(self) -> Result<([u8; N], Cursor<'a>), Refusal>
+        ensures { got_of (λ x. x) result ≡ part N self.entry.rest.now }
     {
-        let at = self.at;
-        if s.len() < at { 0 } else { s.len() - at }
-    }
-
-    pub fn byte(self, s: &[u8]) -> ByteAt
-        requires { self.at + 1 ≤ length s.now }
-        ensures { (result.value ≡ little (take 1 (drop self.at s.now))) × (result.next.at ≡ self.at + 1) }
-    {
-        let at = self.at;
-        ByteAt {
-            value: s[at],
-            next: Cursor { at: at + 1 },
+        match self.rest.split_first_chunk() {
+            Some((field, rest)) => Ok((*field, Cursor { rest })),
+            None => Err(Refusal::EndsEarly),
         }
     }
 
-    // A set of steps: one byte.
-    pub fn set(self, s: &[u8]) -> SetAt
-        requires { self.at + 1 ≤ length s.now }
-        ensures { (result.value ≡ little (take 1 (drop self.at s.now))) × (result.next.at ≡ self.at + 1) }
+    // As many bytes as asked.
+    pub fn bytes(self, count: usize) -> Result<(&'a [u8], Cursor<'a>), Refusal>
+        ensures { got_of (λ x. x.now) result ≡ part count self.entry.rest.now }
     {
-        let b = self.byte(s);
-        let value = set_of(b.value);
-        let next = b.next;
-        SetAt {
-            value: value,
-            next: next,
+        match self.rest.split_at_checked(count) {
+            Some((field, rest)) => Ok((field, Cursor { rest })),
+            None => Err(Refusal::EndsEarly),
         }
     }
 
-    // Two bytes.
-    pub fn short(self, s: &[u8]) -> WordAt
-        requires { self.at + 2 ≤ length s.now }
-        ensures { (result.value ≡ little (take 2 (drop self.at s.now))) × (result.value < 65536) × (result.next.at ≡ self.at + 2) }
+    pub fn byte(self) -> Result<(u8, Cursor<'a>), Refusal>
+        ensures { got_of (λ x. x) result ≡ field_next 1 little self.entry.rest.now }
     {
-        let at = self.at;
-        WordAt {
-            value: wide(s[at]) + 256 * wide(s[at + 1]),
-            next: Cursor { at: at + 2 },
-        }
+        let ([field], next) = self.array::<1>()?;
+        Ok((field, next))
     }
 
-    // Four bytes.
-    pub fn word(self, s: &[u8]) -> WordAt
-        requires { self.at + 4 ≤ length s.now }
-        ensures { (result.value ≡ little (take 4 (drop self.at s.now))) × (result.next.at ≡ self.at + 4) }
+    pub fn short(self) -> Result<(u16, Cursor<'a>), Refusal>
+        ensures { got_of (λ x. x) result ≡ field_next 2 little self.entry.rest.now }
     {
-        let at = self.at;
-        WordAt {
-            value: wide(s[at])
-                + 256 * wide(s[at + 1])
-                + 65536 * wide(s[at + 2])
-                + 16777216 * wide(s[at + 3]),
-            next: Cursor { at: at + 4 },
-        }
+        let (field, next) = self.array()?;
+        Ok((u16::from_le_bytes(field), next))
     }
 
-    // Four bytes with a sign.
-    pub fn int(self, s: &[u8]) -> IntAt
-        requires { self.at + 4 ≤ length s.now }
-        ensures { (result.value ≡ signed 4 (take 4 (drop self.at s.now))) × (result.next.at ≡ self.at + 4) }
+    pub fn word(self) -> Result<(u32, Cursor<'a>), Refusal>
+        ensures { got_of (λ x. x) result ≡ field_next 4 little self.entry.rest.now }
     {
-        let w = self.word(s);
-        let value = twos(w.value, 2147483648);
-        let next = w.next;
-        IntAt {
-            value: value,
-            next: next,
-        }
+        let (field, next) = self.array()?;
+        Ok((u32::from_le_bytes(field), next))
     }
 
     // Two bytes with a sign.
-    pub fn half(self, s: &[u8]) -> IntAt
-        requires { self.at + 2 ≤ length s.now }
-        ensures { (result.value ≡ signed 2 (take 2 (drop self.at s.now))) × (result.next.at ≡ self.at + 2) }
+    pub fn half(self) -> Result<(i32, Cursor<'a>), Refusal>
+        ensures { got_of (λ x. x) result ≡ field_next 2 (signed 2) self.entry.rest.now }
     {
-        let w = self.short(s);
-        let value = twos(w.value, 32768);
-        let next = w.next;
-        IntAt {
-            value: value,
-            next: next,
-        }
+        let (field, next) = self.array()?;
+        Ok((i32::from(i16::from_le_bytes(field)), next))
+    }
+
+    // Four bytes with a sign.
+    pub fn int(self) -> Result<(i32, Cursor<'a>), Refusal>
+        ensures { got_of (λ x. x) result ≡ field_next 4 (signed 4) self.entry.rest.now }
+    {
+        let (field, next) = self.array()?;
+        Ok((i32::from_le_bytes(field), next))
     }
 
     // n step sets.
-    pub fn sets(self, s: &[u8], n: usize) -> SetsAt
-        requires { (self.at + n ≤ length s.now) × (n ≤ 24) }
-        ensures { (result.value ≡ padded 24 0 (map little (parted n 1 (drop self.at s.now)))) × (result.next.at ≡ self.at + n) }
+    pub fn sets<const N: usize>(self, n: usize) -> Result<([u16; N], Cursor<'a>), Refusal>
+        requires { n ≤ N }
+        ensures fields { got_of (take n) result ≡ fields_next n 1 little self.entry.rest.now }
+        ensures blank { IfOk result (λ x. x.0 ≡ padded N 0 (take n x.0)) }
     {
-        let mut value = [0u16; 24];
-        let mut c = self;
-        let mut i: usize = 0;
-        while i < n {
-            let b = c.set(s);
-            value[i] = b.value;
-            c = b.next;
-            i += 1;
-        }
-        SetsAt {
-            value: value,
-            next: c,
-        }
+        let (bytes, next) = self.bytes(n)?;
+        Ok((fields_of::<Set, N>(n, bytes, 0), next))
     }
 
     // n weights.
-    pub fn weights(self, s: &[u8], n: usize) -> WeightsAt
-        requires { (self.at + n * 4 ≤ length s.now) × (n ≤ 24) }
-        ensures { (result.value ≡ padded 24 (pos 0) (map (signed 4) (parted n 4 (drop self.at s.now)))) × (result.next.at ≡ self.at + n * 4) }
+    pub fn weights<const N: usize>(self, n: usize) -> Result<([i32; N], Cursor<'a>), Refusal>
+        requires { n ≤ N }
+        ensures fields { got_of (take n) result ≡ fields_next n 4 (signed 4) self.entry.rest.now }
+        ensures blank { IfOk result (λ x. x.0 ≡ padded N (pos 0) (take n x.0)) }
     {
-        let mut value = [0i32; 24];
-        let mut c = self;
-        let mut i: usize = 0;
-        while i < n {
-            let w = c.int(s);
-            let x = w.value;
-            value[i] = x;
-            c = w.next;
-            i += 1;
-        }
-        WeightsAt {
-            value: value,
-            next: c,
-        }
+        let (bytes, next) = self.bytes(n * 4)?;
+        Ok((fields_of::<Whole, N>(n, bytes, 0), next))
     }
 
-    // n coefficients, into the table from `to` on.
-    pub fn coefs(self, s: &[u8], n: usize, coefs: &mut [i32], to: usize) -> Cursor
-        requires { (self.at + n * 2 ≤ length s.now) × (to + n ≤ length coefs.old) }
-        ensures { (coefs.new ≡ paste coefs.old to (map (signed 2) (parted n 2 (drop self.at s.now))) n) × (result.at ≡ self.at + n * 2) }
+    // n coefficients.
+    pub fn coefs<const N: usize>(self, n: usize) -> Result<([i32; N], Cursor<'a>), Refusal>
+        requires { n ≤ N }
+        ensures fields { got_of (take n) result ≡ fields_next n 2 (signed 2) self.entry.rest.now }
+        ensures blank { IfOk result (λ x. x.0 ≡ padded N (pos 0) (take n x.0)) }
     {
-        let mut c = self;
-        let mut i: usize = 0;
-        while i < n {
-            let w = c.half(s);
-            let x = w.value;
-            coefs[to + i] = x;
-            c = w.next;
-            i += 1;
-        }
-        c
+        let (bytes, next) = self.bytes(n * 2)?;
+        Ok((fields_of::<Half, N>(n, bytes, 0), next))
     }
 }

@@ -1,78 +1,100 @@
--- What does the body of a rule say, and when is it refused?
+-- Which fields has the body of a rule, one behind the other, and when is it refused?
 use mathlib.Core.Path.{◌≡◌, refl, sym, ap, ◌∙◌}
 use mathlib.Core.List.{List, [], map}
-use mathlib.Core.Bool.{Bool, true, false}
-use Prim.Native.Nat.{ℕ, ◌+◌, ◌*◌, ◌-◌, ◌≤◌, ◌<◌}
+use mathlib.Core.Bool.{Bool, true, false, cond, ◌&&◌}
+use Prim.Native.Nat.{ℕ, ◌+◌, ◌*◌}
 use native.Mathlib.Omega.{arith}
-use borrow.Author.Tests.{le-leb, lt-leb, ne_eqb}
-use lib.ListN.{length, take, drop, length-take, length-drop, drop_of_length-le}
-use lib.IntN.{pos}
-use lib.Seq.{drop-drop, take-take}
+use lib.ListN.{length, take, drop, length-drop, drop_of_length-le}
+use lib.IntN.{ℤ, pos}
+use lib.Seq.{drop-drop, take-take, take_all}
+use Rattle.std.proofs.Math.Bool.{and-true}
+use Rattle.std.specs.Int.Signed.{le_z}
 use Rattle.laws.specs.Lists.{parted}
 use Rattle.laws.proofs.Parts.{parted_take}
 use Rattle.laws.proofs.Filled.{take_within}
-use Rattle.meaning.specs.Problem.{Said, Terms, among, sums, version1, right_rule}
-use Rattle.meaning.specs.File.{refused, got, little, signed, said_of, among_body, sum_body, body_next, kind_next}
-use Rattle.rtp.specs.Reading.{rule_next}
-use Rattle.problem.specs.Held.{rule_said}
+use Rattle.meaning.specs.Problem.{Said, Terms, among, sums, version1, size, right_terms, right_rule}
+use Rattle.meaning.specs.File.{refused, got, Reader, onward, little, signed, part, checked, fields_next, said_of, among_body, sum_body, body_next}
+use Rattle.problem.specs.declared.Bounds.{Bounds}
+use Rattle.cursor.specs.Fields.{field_next}
+use Rattle.rtp.specs.Reading.{bounds_said}
+use Rattle.rtp.proofs.Parts.{onward_twice, onward_field, onward_part, parts_two}
 
--- ---- any body of k bytes and the bounds
-module _ (n k : ℕ) (g : List ℕ → Said) (b : List ℕ) where
-  no_lead : k + 8 + 0 ≡ k + 8
-  no_lead = omega arith
+-- ---- lb, then ub
+pub bounds_fields : (s : List ℕ) → field_next 8 bounds_said s ≡ onward (field_next 4 (signed 4) s) (λ lb u. onward (field_next 4 (signed 4) u) (λ ub. got (record { lb = lb; ub = ub })))
+bounds_fields s = parts_two 4 4 (λ a b. both (signed 4 a) (signed 4 b)) s ∙ sym (λ i. onward (part 4 s) (λ a u. onward_field 4 (signed 4) (both (signed 4 a)) u i)) ∙ sym (onward_field 4 (signed 4) (λ lb u. onward (field_next 4 (signed 4) u) (both lb)) s)
+  where
+    both : ℤ → ℤ → Reader Bounds
+    both lb ub = got (record { lb = lb; ub = ub })
 
-  pub body_short : length b < k + 8 → body_next version1 n k g b ≡ refused 1
-  body_short h = rw (no_lead, lt-leb (k + 8) (length b) h) refl
+-- ---- a rule of its terms and bounds
+abbrev pub said_so : Terms → Bounds → Said
+said_so t b = record { terms = t; lb = b.lb; ub = b.ub; lead = pos 0 }
 
-  -- it is there, and says x; t is the test of its terms and its bounds
-  module _ (h : k + 8 ≤ length b) {x : Said} (is : g (take (k + 8) b) ≡ x) {t : Bool} (tested : right_rule version1 n x ≡ t) where
-    pub body_wrong : t ≡ false → body_next version1 n k g b ≡ refused 6
-    body_wrong e = rw (no_lead, le-leb (k + 8) (length b) h, ap (right_rule version1 n) is ∙ tested ∙ e) refl
+abbrev pub right_bounds : Bounds → Bool
+right_bounds b = size 200000 b.lb && size 200000 b.ub && le_z b.lb b.ub
 
-    pub body_right : t ≡ true → body_next version1 n k g b ≡ got x (drop (k + 8) b)
-    body_right e = rw (no_lead, le-leb (k + 8) (length b) h, ap (right_rule version1 n) is ∙ tested ∙ e) (ap (λ (y : Said). got y (drop (k + 8) b)) is)
+-- the rule, or 6
+abbrev pub tested : ℕ → Terms → Bounds → Reader Said
+tested n t b u = cond (right_terms version1 n t && right_bounds b) (got (said_so t b) u) (refused 6)
 
--- its bounds stand behind the k bytes, and nothing behind them
-said_is : (k : ℕ) (t : Terms) (b : List ℕ) → k + 8 ≤ length b
-    → said_of version1 t (drop k (take (k + 8) b)) ≡ record { terms = t; lb = signed 4 (take 4 (drop k b)); ub = signed 4 (take 4 (drop (k + 4) b)); lead = pos 0 }
-said_is k t b h =
-    let c = take (k + 8) b in
-    let low : take 4 (drop k c) ≡ take 4 (drop k b) = take_within k 4 (k + 8) b (omega arith) in
-    let high : take 4 (drop 4 (drop k c)) ≡ take 4 (drop (k + 4) b) = rw (drop-drop 4 k c) (take_within (k + 4) 4 (k + 8) b (omega arith)) in
-    let end : length c ≤ k + 8 = omega (arith, length-take (k + 8) b) in
-    let none : drop 8 (drop k c) ≡ [] = drop-drop 8 k c ∙ drop_of_length-le c end in
-    rw (low, high, none) refl
+four_tests : (a b c d : Bool) → (a && b && c && d && true) ≡ (a && (b && c && d))
+four_tests true b c d = and-true (b && c && d)
+four_tests false b c d = refl
 
--- ---- among: S, the slots, lb, ub
-pub among_is : (b : List ℕ) → 13 ≤ length b
-    → among_body version1 (take 13 b) ≡ rule_said 1 (little (take 1 b)) (little (take 4 (drop 1 b))) [] (signed 4 (take 4 (drop 5 b))) (signed 4 (take 4 (drop 9 b)))
-among_is b h = rw (take-take 1 13 b (omega arith), take_within 1 4 13 b (omega arith)) (said_is 5 (among (little (take 1 b)) (little (take 4 (drop 1 b)))) b h)
+rule_tested : (n : ℕ) (t : Terms) (b : Bounds) → right_rule version1 n (said_so t b) ≡ (right_terms version1 n t && right_bounds b)
+rule_tested n (among s t) b = four_tests (right_terms version1 n (among s t)) (size 200000 b.lb) (size 200000 b.ub) (le_z b.lb b.ub)
+rule_tested n (sums c) b = four_tests (right_terms version1 n (sums c)) (size 200000 b.lb) (size 200000 b.ub) (le_z b.lb b.ub)
 
--- ---- sum: n coefficients, lb, ub
-same_coefs : (n : ℕ) (b : List ℕ) → n * 2 + 8 ≤ length b → parted n 2 (take (n * 2 + 8) b) ≡ parted n 2 b
-same_coefs n b h =
-    parted_take n 2 (take (n * 2 + 8) b) (omega (arith, length-take (n * 2 + 8) b))
-    ∙ ap (parted n 2) (take-take (n * 2) (n * 2 + 8) b (omega arith))
-    ∙ sym (parted_take n 2 b (omega arith))
+module _ (n k : ℕ) (g : List ℕ → Said) (t : List ℕ → Terms) (is : (c : List ℕ) → length c ≡ k + 8 → g c ≡ said_of version1 (t (take k c)) (drop k c)) where
+  abbrev all : List ℕ → Reader Said
+  all c u = onward (checked 6 (right_rule version1 n (g c)) u) (λ z. got (g c))
 
-pub sum_is : (n : ℕ) (b : List ℕ) → n * 2 + 8 ≤ length b
-    → sum_body version1 n (take (n * 2 + 8) b) ≡ rule_said 2 0 0 (map (signed 2) (parted n 2 b)) (signed 4 (take 4 (drop (n * 2) b))) (signed 4 (take 4 (drop (n * 2 + 4) b)))
-sum_is n b h = rw (same_coefs n b h) (said_is (n * 2) (sums (map (signed 2) (parted n 2 b))) b h)
+  abbrev each : List ℕ → List ℕ → Reader Said
+  each a b = tested n (t a) (bounds_said b)
 
--- ---- a rule: the kind byte decides what follows
-module _ (n : ℕ) (s : List ℕ) (at : ℕ) where
-  pub no_kind : length s - at < 1 → rule_next n (drop at s) ≡ refused 1
-  no_kind h = rw (lt-leb 1 (length (drop at s)) (omega (arith, length-drop at s))) refl
+  all_is : (c u : List ℕ) → length c ≡ k + 8 → all c u ≡ each (take k c) (take 8 (drop k c)) u
+  all_is c u h = rw (said_is, rule_tested n (t (take k c)) (bounds_said (drop k c)), whole) (go (right_terms version1 n (t (take k c)) && right_bounds (bounds_said (drop k c))))
+    where
+      none : drop 8 (drop k c) ≡ []
+      none = drop-drop 8 k c ∙ drop_of_length-le c (omega arith)
 
-  module _ {kind on : ℕ} (h : 1 ≤ length s - at) (is : kind ≡ little (take 1 (drop at s))) (next : on ≡ at + 1) where
-    kind_is : rule_next n (drop at s) ≡ kind_next version1 n kind (drop on s)
-    kind_is = rw (is, next, le-leb 1 (length (drop at s)) (omega (arith, length-drop at s)), drop-drop 1 at s) refl
+      whole : take 8 (drop k c) ≡ drop k c
+      whole = take_all 8 (drop k c) (omega (arith, length-drop k c))
 
-    pub among_kind : kind ≡ 1 → rule_next n (drop at s) ≡ body_next version1 n 5 (among_body version1) (drop on s)
-    among_kind e = kind_is ∙ rw e refl
+      x : Said
+      x = said_so (t (take k c)) (bounds_said (drop k c))
 
-    pub sum_kind : kind ≡ 2 → rule_next n (drop at s) ≡ body_next version1 n (n * 2) (sum_body version1 n) (drop on s)
-    sum_kind e = kind_is ∙ rw e refl
+      said_is : g c ≡ x
+      said_is = is c h ∙ rw none refl
 
-    pub other_kind : (kind ≡ 1 → ⊥) → (kind ≡ 2 → ⊥) → rule_next n (drop at s) ≡ refused 6
-    other_kind f g = kind_is ∙ rw (ne_eqb kind 1 f, ne_eqb kind 2 g) refl
+      go : (r : Bool) → onward (checked 6 r u) (λ z. got x) ≡ cond r (got x u) (refused 6)
+      go true = refl
+      go false = refl
+
+  -- terms of k bytes, then the bounds
+  body_is : (s : List ℕ) → body_next version1 n k g s ≡ onward (part k s) (λ a u. onward (field_next 8 bounds_said u) (tested n (t a)))
+  body_is s =
+      let no_lead : k + 8 + 0 ≡ k + 8 = omega arith in
+      ap (λ (m : ℕ). onward (part m s) all) no_lead
+      ∙ onward_part (k + 8) all (λ c. each (take k c) (take 8 (drop k c))) s all_is
+      ∙ parts_two k 8 each s
+      ∙ sym (λ i. onward (part k s) (λ a u. onward_field 8 bounds_said (tested n (t a)) u i))
+
+-- ---- among: S, the slots, the bounds
+pub among_fields : (n : ℕ) (s : List ℕ) → body_next version1 n 5 (among_body version1) s ≡ onward (field_next 1 little s) (λ v u. onward (field_next 4 little u) (λ t w. onward (field_next 8 bounds_said w) (tested n (among v t))))
+among_fields n s =
+    let terms : List ℕ → Terms = λ a. among (little (take 1 a)) (little (take 4 (drop 1 a))) in
+    body_is n 5 (among_body version1) terms (λ c h. rw (take-take 1 5 c (omega arith), take_within 1 4 5 c (omega arith)) refl) s
+    ∙ parts_two 1 4 (λ a b u. behind (little a) (little b) u) s
+    ∙ sym (λ i. onward (part 1 s) (λ a u. onward_field 4 little (behind (little a)) u i))
+    ∙ sym (onward_field 1 little (λ v u. onward (field_next 4 little u) (behind v)) s)
+  where
+    behind : ℕ → ℕ → Reader Said
+    behind v t u = onward (field_next 8 bounds_said u) (tested n (among v t))
+
+-- ---- sum: n coefficients, the bounds
+pub sum_fields : (n : ℕ) (s : List ℕ) → body_next version1 n (n * 2) (sum_body version1 n) s ≡ onward (fields_next n 2 (signed 2) s) (λ c u. onward (field_next 8 bounds_said u) (tested n (sums c)))
+sum_fields n s =
+    let terms : List ℕ → Terms = λ a. sums (map (signed 2) (parted n 2 a)) in
+    body_is n (n * 2) (sum_body version1 n) terms (λ c h. rw (parted_take n 2 c (omega arith)) refl) s
+    ∙ sym (onward_twice (part (n * 2) s) (λ b. got (map (signed 2) (parted n 2 b))) (λ c u. onward (field_next 8 bounds_said u) (tested n (sums c))))

@@ -5,6 +5,8 @@ use Prim.Native.Nat.{ℕ}
 use lib.ListN.{replicate}
 use lib.IntN.{pos, negsuc}
 use Rattle.meaning.specs.Calls.{read}
+use Rattle.problem.specs.declared.Terms.TheVariants.{Among, Sum, Neither}
+use Rattle.problem.specs.Held.{no_bounds}
 use Rattle.rtp.specs.Reading.{read_as}
 
 -- two slots, {0,1} and {3}, weights -1 and 2; among S = {1} over slot 0 within 0..1; sum 5, -3 within -9..5
@@ -17,16 +19,12 @@ file =
 pub accepted_case : read_as (read file) ≡ record {
   number = 0;
   problem = record {
-    n = 2;
-    m = 2;
+    slots = 2;
+    rules = 2;
     sets = 3 ∷ 8 ∷ replicate 22 0;
     weights = negsuc 0 ∷ pos 2 ∷ replicate 22 (pos 0);
-    kinds = 1 ∷ 2 ∷ replicate 6 0;
-    values = 2 ∷ replicate 7 0;
-    slots = 1 ∷ replicate 7 0;
-    coefs = replicate 24 (pos 0) ++ pos 5 ∷ negsuc 2 ∷ replicate 166 (pos 0);
-    lb = pos 0 ∷ negsuc 8 ∷ replicate 6 (pos 0);
-    ub = pos 1 ∷ pos 5 ∷ replicate 6 (pos 0);
+    terms = Among 2 1 ∷ Sum (pos 5 ∷ negsuc 2 ∷ replicate 22 (pos 0)) ∷ replicate 6 Neither;
+    bounds = record { lb = pos 0; ub = pos 1 } ∷ record { lb = negsuc 8; ub = pos 5 } ∷ replicate 6 no_bounds;
   };
 }
 accepted_case = refl
@@ -35,16 +33,12 @@ accepted_case = refl
 pub refused_case : read_as (read (file ++ 0 ∷ [])) ≡ record {
   number = 7;
   problem = record {
-    n = 0;
-    m = 0;
+    slots = 0;
+    rules = 0;
     sets = replicate 24 0;
     weights = replicate 24 (pos 0);
-    kinds = replicate 8 0;
-    values = replicate 8 0;
-    slots = replicate 8 0;
-    coefs = replicate 192 (pos 0);
-    lb = replicate 8 (pos 0);
-    ub = replicate 8 (pos 0);
+    terms = replicate 8 Neither;
+    bounds = replicate 8 no_bounds;
   };
 }
 refused_case = refl

@@ -1,6 +1,5 @@
 -- Laws that the functions' proofs cite.
-pub mod Mark
+pub mod Parts
 pub mod Bodies
 pub mod Rules
-pub mod Whole
 pub mod Cases

@@ -1,160 +1,109 @@
--- m rules one behind the other: what is read so far, and what is left to read.
-use mathlib.Core.Path.{◌≡◌, refl, sym, ap, ◌∙◌}
+-- m rules one behind the other: what the loop lays in its arrays is what the meanings read.
+use mathlib.Core.Path.{◌≡◌, refl, ap, ◌∙◌}
 use mathlib.Core.List.{List, [], ◌∷◌, ◌++◌, map, append_assoc, append-nil, map-append}
-use Prim.Native.Nat.{ℕ, suc, ◌+◌, ◌*◌, ◌-◌, ◌≤◌, ◌<◌}
+use Prim.Native.Nat.{ℕ, zero, suc, ◌+◌, ◌≤◌, ◌<◌}
 use native.Mathlib.Omega.{arith}
-use lib.ListN.{length, set, drop, replicate, length-map, length-append}
-use lib.IntN.{ℤ, pos}
-use lib.Seq.{paste}
-use Rattle.laws.specs.Lists.{gather, padded}
-use Rattle.laws.proofs.Filled.{length-padded, padded_more, padded_paste, padded_row, length_rows, gather_more}
+use lib.ListN.{length, set, replicate, length-map, length-append}
+use Rattle.laws.specs.Lists.{padded}
+use Rattle.laws.proofs.Filled.{padded_more}
 use Rattle.meaning.specs.Problem.{Said, version1}
-use Rattle.meaning.specs.File.{Got, refused, got, Reader, onward, little, part, kind_next, rules_next}
-use Rattle.problem.specs.Held.{kind_of, values_of, slots_of, coefs_of, each_rule, rows}
-use Rattle.rtp.specs.declared.RuleAt.{RuleAt}
-use Rattle.rtp.specs.declared.RulesAt.{RulesAt}
-use Rattle.rtp.specs.Reading.{rule_next, Told, RuleIs, RulesTold}
+use Rattle.meaning.specs.File.{Got, refused, got, Reader, onward, gives, little, part, kind_next, rules_next}
+use Rattle.problem.specs.declared.Bounds.{Bounds}
+use Rattle.problem.specs.declared.Terms.{Terms}
+use Rattle.problem.specs.declared.Terms.TheVariants.{Neither}
+use Rattle.problem.specs.Held.{terms_of, bounds_of, no_bounds}
+use Rattle.rtp.specs.Reading.{rule_next, onto, parts_of, all_parts}
+use Rattle.rtp.proofs.Parts.{onward_twice}
 
--- ---- what is told: read, or refused
-module _ {A : Type 0} (P : A → List ℕ → Type 0) where
-  pub record Is (g : Got A) : Type 0 where
-    pub value : A
-    pub rest : List ℕ
-    pub is : g ≡ got value rest
-    pub holds : P value rest
+-- the next j rules, laid from place k on
+abbrev pub laid : ℕ → ℕ → ℕ → List Terms → List Bounds → Reader (List Terms × List Bounds)
+laid n zero k ts bs s = got (ts, bs) s
+laid n (suc j) k ts bs s = onward (onto parts_of (rule_next n s)) (λ p. laid n j (k + 1) (set ts k p.0) (set bs k p.1))
 
-  pub told_read : {number : ℕ} (g : Got A) → Told P number g → number ≡ 0 → Is g
-  told_read (refused k) h e = absurd (omega (arith, h))
-  told_read (got x rest) h e = record { value = x; rest = rest; is = refl; holds = h.1 }
+-- one more place
+place_more : {A : Type 0} (f : Said → A) (z : A) (done : List Said) (x : Said) → length done < 8 → set (padded 8 z (map f done)) (length done) (f x) ≡ padded 8 z (map f (done ++ x ∷ []))
+place_more f z done x h =
+    let long : length (map f done) ≡ length done = length-map done f in
+    rw (map-append f done (x ∷ [])) (rw long at (padded_more z 8 (map f done) (f x) (omega arith)))
 
-  pub told_refused : {number : ℕ} (g : Got A) → Told P number g → (number ≡ 0 → ⊥) → (g ≡ refused number) × (1 ≤ number)
-  told_refused (refused k) h f = (ap refused (sym h.0), omega (arith, h))
-  told_refused (got x rest) h f = absurd (f h.0)
+abbrev terms_at : Said → Terms
+terms_at r = terms_of r.terms
 
--- ---- what is left, behind the rules that were read
-abbrev behind : List Said → Got (List Said) → Got (List Said)
-behind done (refused k) = refused k
-behind done (got rs t) = got (done ++ rs) t
+module _ (n : ℕ) where
+  -- the next m rules, behind those that were read
+  abbrev laid_more : ℕ → List Said → Reader (List Terms × List Bounds)
+  laid_more m done = laid n m (length done) (padded 8 Neither (map terms_at done)) (padded 8 no_bounds (map bounds_of done))
 
-behind_none : (g : Got (List Said)) → g ≡ behind [] g
-behind_none (refused k) = refl
-behind_none (got rs t) = refl
+  abbrev read_more : ℕ → List Said → Reader (List Terms × List Bounds)
+  read_more m done s = onto (λ rs. all_parts (done ++ rs)) (rules_next version1 n m s)
 
-one_more : (done : List Said) (x : Said) (g : Got (List Said)) → behind done (onward g (λ (rs : List Said). got (x ∷ rs))) ≡ behind (done ++ x ∷ []) g
-one_more done x (refused k) = refl
-one_more done x (got rs t) = ap (λ (l : List Said). got l t) (sym (append_assoc done (x ∷ []) rs))
-
--- the next rule first, then the others
-module _ (n j : ℕ) (t : List ℕ) where
-  abbrev others : Said → Reader (List Said)
-  others x u = onward (rules_next version1 n j u) (λ (rs : List Said). got (x ∷ rs))
-
-  next_rule : rules_next version1 n (suc j) t ≡ onward (rule_next n t) others
-  next_rule = go (part 1 t)
+  laid_behind : (m : ℕ) (done : List Said) (s : List ℕ) → length done + m ≤ 8 → laid_more m done s ≡ read_more m done s
+  laid_behind zero done s h = rw (append-nil done) refl
+  laid_behind (suc m) done s h =
+      let room : length done < 8 = omega arith in
+      let long = λ (x : Said). length-append done (x ∷ []) in
+      go room (λ x u. laid_behind m (done ++ x ∷ []) u (omega (arith, long x))) (rule_next n s)
+      ∙ ap (onto (λ rs. all_parts (done ++ rs))) (onward_twice (part 1 s) (λ k. kind_next version1 n (little k)) others)
     where
-      go : (g : Got (List ℕ)) → onward g (λ (k : List ℕ) (u : List ℕ). onward (kind_next version1 n (little k) u) others) ≡ onward (onward g (λ (k : List ℕ). kind_next version1 n (little k))) others
-      go (refused k) = refl
-      go (got b u) = refl
+      others : Said → Reader (List Said)
+      others x u = onward (rules_next version1 n m u) (λ rs. got (x ∷ rs))
 
--- ---- k rules read
-pub record SoFar (s : List ℕ) (n m first : ℕ) (kinds values slots : List ℕ) (coefs lb ub : List ℤ) (at k : ℕ) : Type 0 where
-  pub done : List Said
-  pub count : length done ≡ k
-  pub kinds_are : kinds ≡ each_rule (λ (x : Said). kind_of x.terms) 0 done
-  pub values_are : values ≡ each_rule (λ (x : Said). values_of x.terms) 0 done
-  pub slots_are : slots ≡ each_rule (λ (x : Said). slots_of x.terms) 0 done
-  pub coefs_are : coefs ≡ rows done
-  pub lb_are : lb ≡ each_rule (λ (x : Said). x.lb) (pos 0) done
-  pub ub_are : ub ≡ each_rule (λ (x : Said). x.ub) (pos 0) done
-  pub left : rules_next version1 n m (drop first s) ≡ behind done (rules_next version1 n (m - k) (drop at s))
+      one_more : (x : Said) (g : Got (List Said)) → onto (λ rs. all_parts ((done ++ x ∷ []) ++ rs)) g ≡ onto (λ rs. all_parts (done ++ rs)) (onward g (λ rs. got (x ∷ rs)))
+      one_more x (refused k) = refl
+      one_more x (got rs u) = rw (append_assoc done (x ∷ []) rs) refl
 
--- none
-pub so_far_none : (s : List ℕ) (n m first : ℕ) {coefs : List ℤ} → coefs ≡ replicate 192 (pos 0) → SoFar s n m first (replicate 8 0) (replicate 8 0) (replicate 8 0) coefs (replicate 8 (pos 0)) (replicate 8 (pos 0)) first 0
-so_far_none s n m first zero =
-    let all : m - 0 ≡ m = omega arith in
-    record {
-      done = [];
-      count = refl;
-      kinds_are = refl;
-      values_are = refl;
-      slots_are = refl;
-      coefs_are = zero;
-      lb_are = refl;
-      ub_are = refl;
-      left = rw all (behind_none (rules_next version1 n m (drop first s)));
+      go : length done < 8 → ((x : Said) (u : List ℕ) → laid_more m (done ++ x ∷ []) u ≡ read_more m (done ++ x ∷ []) u) → (g : Got Said)
+          → onward (onto parts_of g) (λ p. laid n m (length done + 1) (set (padded 8 Neither (map terms_at done)) (length done) p.0) (set (padded 8 no_bounds (map bounds_of done)) (length done) p.1))
+          ≡ onto (λ rs. all_parts (done ++ rs)) (onward g others)
+      go room later (refused k) = refl
+      go room later (got x u) =
+          let long : length (done ++ x ∷ []) ≡ length done + 1 = length-append done (x ∷ []) in
+          rw (place_more terms_at Neither done x room, place_more bounds_of no_bounds done x room, ← long) (later x u ∙ one_more x (rules_next version1 n m u))
+
+  -- all of them
+  pub laid_all : (m : ℕ) (s : List ℕ) → m ≤ 8 → laid n m 0 (replicate 8 Neither) (replicate 8 no_bounds) s ≡ onto all_parts (rules_next version1 n m s)
+  laid_all m s h = laid_behind m [] s (omega arith)
+
+-- ---- m rules are m
+abbrev Counts : ℕ → Got (List Said) → Type 0
+Counts m (refused k) = Unit {0}
+Counts m (got rs u) = length rs ≡ m
+
+counts_onward : {A : Type 0} (m : ℕ) (g : Got A) (f : A → Reader (List Said)) → ((x : A) (u : List ℕ) → Counts m (f x u)) → Counts m (onward g f)
+counts_onward m (refused k) f h = tt
+counts_onward m (got x u) f h = h x u
+
+counts_more : (m : ℕ) (x : Said) (g : Got (List Said)) → Counts m g → Counts (suc m) (onward g (λ rs. gives (x ∷ rs)))
+counts_more m x (refused k) h = tt
+counts_more m x (got rs u) h = ap suc h
+
+rules_count : (n m : ℕ) (s : List ℕ) → Counts m (rules_next version1 n m s)
+rules_count n zero s = refl
+rules_count n (suc m) s =
+    counts_onward (suc m) (part 1 s) _ (λ k u. counts_onward (suc m) (kind_next version1 n (little k) u) _ (λ x w. counts_more m x (rules_next version1 n m w) (rules_count n m w)))
+
+-- what was read
+abbrev value_or : {A : Type 0} → A → Got A → A
+value_or d (refused k) = d
+value_or d (got x u) = x
+
+-- the rules that were read into arrays
+pub record Read (m : ℕ) (ts : List Terms) (bs : List Bounds) (u : List ℕ) (g : Got (List Said)) : Type 0 where
+  pub rules : List Said
+  pub is : g ≡ got rules u
+  pub count : length rules ≡ m
+  pub terms : ts ≡ padded 8 Neither (map (λ r. terms_of r.terms) rules)
+  pub bounds : bs ≡ padded 8 no_bounds (map bounds_of rules)
+
+pub rules_read : (n m : ℕ) (s : List ℕ) {ts : List Terms} {bs : List Bounds} {u : List ℕ} → got (ts, bs) u ≡ onto all_parts (rules_next version1 n m s) → Read m ts bs u (rules_next version1 n m s)
+rules_read n m s {ts} {bs} {u} e = go (rules_next version1 n m s) (rules_count n m s) e
+  where
+    go : (g : Got (List Said)) → Counts m g → got (ts, bs) u ≡ onto all_parts g → Read m ts bs u g
+    go (refused k) h f = cc
+    go (got rs w) h f = record {
+      rules = rs;
+      is = cc;
+      count = h;
+      terms = ap (λ (r : Got (List Terms × List Bounds)). (value_or (ts, bs) r).0) f;
+      bounds = ap (λ (r : Got (List Terms × List Bounds)). (value_or (ts, bs) r).1) f;
     }
-
--- a field goes to its place
-field_more : {A : Type 0} (f : Said → A) (z : A) {l : List A} {y : A} {k : ℕ} (done : List Said) (x : Said) → k < 8 → length done ≡ k → l ≡ each_rule f z done → y ≡ f x
-    → set l k y ≡ each_rule f z (done ++ x ∷ [])
-field_more f z {k = k} done x h count filled value =
-    let long : length (map f done) ≡ k = length-map done f ∙ count in
-    rw (filled, value, map-append f done (x ∷ [])) (rw long at (padded_more z 8 (map f done) (f x) (omega arith)))
-
--- a row goes to its place
-abbrev row : Said → List ℤ
-row r = padded 24 (pos 0) (coefs_of r.terms)
-
-rows_more : {t t' : List ℤ} {k : ℕ} (done : List Said) (x : Said) → k < 8 → length done ≡ k → t ≡ rows done → length (coefs_of x.terms) ≤ 24
-    → t' ≡ paste t (k * 24) (coefs_of x.terms) (length (coefs_of x.terms)) → t' ≡ rows (done ++ x ∷ [])
-rows_more {k = k} done x h count filled short pasted =
-    let cs = coefs_of x.terms in
-    let l = gather row done in
-    let long : length l ≡ k * 24 = omega (arith, length_rows row 24 (λ (r : Said). length-padded (pos 0) 24 (coefs_of r.terms)) done) in
-    let room : length l + length cs ≤ 192 = omega arith in
-    pasted ∙ rw (filled, gather_more row done x) (rw long at (padded_paste (pos 0) 192 l cs room) ∙ sym (padded_row (pos 0) 192 24 l cs short))
-
-module _ {s : List ℕ} {n m first : ℕ} {kinds values slots : List ℕ} {coefs lb ub : List ℤ} {at k : ℕ} (so : SoFar s n m first kinds values slots coefs lb ub at k) where
-  -- the table is whole
-  pub so_far_table : length coefs ≡ 192
-  so_far_table = ap length so.coefs_are ∙ length-padded (pos 0) 192 (gather row so.done)
-
-  module _ (h : k < m) where
-    left_on : rules_next version1 n m (drop first s) ≡ behind so.done (onward (rule_next n (drop at s)) (others n (m - (k + 1)) (drop at s)))
-    left_on =
-        let more : m - k ≡ suc (m - (k + 1)) = omega arith in
-        so.left ∙ ap (behind so.done) (ap (λ (j : ℕ). rules_next version1 n j (drop at s)) more ∙ next_rule n (m - (k + 1)) (drop at s))
-
-    -- the next one is refused
-    pub so_far_refused : {e : ℕ} → rule_next n (drop at s) ≡ refused e → rules_next version1 n m (drop first s) ≡ refused e
-    so_far_refused e = left_on ∙ rw e refl
-
-    -- the next one is read
-    pub so_far_more : {coefs' : List ℤ} {r : RuleAt} {low high : ℤ} → m ≤ 8 → low ≡ r.lb → high ≡ r.ub → Is (λ (x : Said) (rest : List ℕ). RuleIs s (k * 24) coefs coefs' x rest r) (rule_next n (drop at s))
-        → SoFar s n m first (set kinds k r.kind) (set values k r.values) (set slots k r.slots) coefs' (set lb k low) (set ub k high) r.next.at (k + 1)
-    so_far_more b p q g =
-        let x = g.value in
-        let d = so.done in
-        let i : k < 8 = omega arith in
-        record {
-          done = d ++ x ∷ [];
-          count = length-append d (x ∷ []) ∙ ap (λ (j : ℕ). j + 1) so.count;
-          kinds_are = field_more (λ (y : Said). kind_of y.terms) 0 d x i so.count so.kinds_are g.holds.kind;
-          values_are = field_more (λ (y : Said). values_of y.terms) 0 d x i so.count so.values_are g.holds.values;
-          slots_are = field_more (λ (y : Said). slots_of y.terms) 0 d x i so.count so.slots_are g.holds.slots;
-          coefs_are = rows_more d x i so.count so.coefs_are g.holds.row g.holds.table;
-          lb_are = field_more (λ (y : Said). y.lb) (pos 0) d x i so.count so.lb_are (p ∙ g.holds.lb);
-          ub_are = field_more (λ (y : Said). y.ub) (pos 0) d x i so.count so.ub_are (q ∙ g.holds.ub);
-          left = left_on ∙ rw g.is (one_more d x (rules_next version1 n (m - (k + 1)) g.rest) ∙ rw g.holds.next refl);
-        }
-
--- all
-pub so_far_all : (s : List ℕ) (n m first : ℕ) {t : List ℤ} (r : RulesAt) → r.number ≡ 0 → SoFar s n m first r.kinds r.values r.slots t r.lb r.ub r.next.at m
-    → RulesTold s m t (rules_next version1 n m (drop first s)) r
-so_far_all s n m first r z so =
-    let none : m - m ≡ 0 = omega arith in
-    let all : rules_next version1 n m (drop first s) ≡ got so.done (drop r.next.at s) =
-    so.left ∙ rw none (ap (λ (l : List Said). got l (drop r.next.at s)) (append-nil so.done)) in
-    rw all (
-      z,
-      record {
-        count = so.count;
-        kinds = so.kinds_are;
-        values = so.values_are;
-        slots = so.slots_are;
-        coefs = so.coefs_are;
-        lb = so.lb_are;
-        ub = so.ub_are;
-        next = refl;
-      },
-    )

@@ -1,10 +1,11 @@
--- `rules_at` meets its contract: each rule stands where the one before ended; the first fault stops the loop.
-use Prim.Native.Nat.{◌-◌, ◌≤◌}
-use Rattle.rtp.proofs.Rules.{SoFar}
+-- What the rules from here on lay is what is to be read.
+use mathlib.Core.Path.{◌≡◌}
+use Prim.Native.Nat.{◌-◌}
+use Rattle.meaning.specs.Problem.{version1}
+use Rattle.meaning.specs.File.{rules_next}
+use Rattle.rtp.specs.Reading.{onto, all_parts}
+use Rattle.rtp.proofs.Rules.{laid}
 use Rattle.rtp.proofs.rules_at.Given as goal
 
 abbrev pub invariant-loop-k : goal.invariant-loop-k
-invariant-loop-k l = (l.k ≤ l.m) × SoFar l.s l.n l.m l.initial.c.at l.kinds l.values l.slots l.coefs l.lb l.ub l.c.at l.k
-
-abbrev pub decreases-loop-k : goal.decreases-loop-k
-decreases-loop-k l = l.m - l.k
+invariant-loop-k l = laid l.n (l.m - l.k) l.k l.terms l.bounds l.next.rest.now ≡ onto all_parts (rules_next version1 l.n l.m l.cursor.rest.now)
