@@ -3,18 +3,18 @@ use mathlib.Core.Path.{◌≡◌, refl, sym, ap, ◌∙◌}
 use mathlib.Core.List.{List, [], ◌∷◌, ◌++◌, map}
 use mathlib.Core.Bool.{Bool, true, false, ◌&&◌, cond}
 use Prim.Native.Nat.{ℕ, zero, suc, ◌+◌, ◌-◌, ◌*◌, ◌≤◌, ◌<◌}
-use native.Mathlib.Nat.{zero-add}
 use native.Mathlib.Numerals.{add-one}
 use native.Mathlib.Omega.{arith}
 use native.Mathlib.Decide.{dec_lt}
 use lib.ListN.{length, get_or, set, take, drop, length-map, length-set, length-drop, drop_of_length-le}
-use lib.Seq.{paste, paste-zero, paste-suc, length-paste, length-take-le, take_all, get_or-take, get_or-drop, get_or-set_same, get_or-set_other, drop-cons, ext_get_or}
+use lib.Seq.{paste, length-take-le, get_or-take, get_or-drop, get_or-set_same, get_or-set_other, drop-cons, ext_get_or}
 use lib.IntN.{ℤ, pos, neg_ℤ, ◌+ℤ◌, ◌-ℤ◌}
 use lib.Signed.{le_z, lt_z}
 use Rattle.laws.specs.Z.{zarith, neg, parts, min_z, Within, sum_within}
 use Rattle.laws.proofs.Lists.{get_or_map, and_true, and_false}
 use Rattle.laws.proofs.Each.{Each, each_at, each_append, each_map, each_take, each_drop}
 use Rattle.laws.proofs.Filled.{part_pasted, padded_full}
+use Rattle.laws.proofs.Reached.{Reached, reached_more, reached_all}
 use Rattle.lent.specs.Lanes.{lanes_at, arc_at, zipped, sums, leasts, at_most}
 use Rattle.lent.proofs.Lanes.{block, length-block, block_low, block_high, block_cost}
 
@@ -59,44 +59,15 @@ each_leasts P = each_zipped min_z P P P (λ a b h l. either (le_z a b) a b h l)
     either true a b h l = h
     either false a b h l = l
 
--- ---- a loop that lays the lanes s at a place of d: z is what it has after k of them
-pub record Laid (d : List ℤ) (at : ℕ) (s z : List ℤ) (k : ℕ) : Type 0 where
-  pub room : at + 17 ≤ length d
-  pub long : length s ≡ 17
-  pub done : k ≤ 17
-  pub is : z ≡ paste d at s k
-
-pub laid_start : (d : List ℤ) (at : ℕ) (s : List ℤ) → at + 17 ≤ length d → length s ≡ 17 → Laid d at s d 0
-laid_start d at s h e = record { room = h; long = e; done = omega arith; is = paste-zero d at s }
-
-module _ {d s z : List ℤ} {at k : ℕ} (l : Laid d at s z k) where
-  pub laid_length : length z ≡ length d
-  laid_length = ap length l.is ∙ length-paste d at s k (omega (arith, l.room, l.done)) (omega (arith, l.long, l.done))
-
-  pub laid_more : (p : ℕ) (v : ℤ) → k < 17 → p ≡ at + k → v ≡ get_or s k (pos 0) → Laid d at s (set z p v) (k + 1)
-  laid_more p v h e w = record {
-    room = l.room;
-    long = l.long;
-    done = omega arith;
-    is = rw (l.is, e, w, add-one) (paste-suc d at s k (pos 0) (omega (arith, l.room)) (omega (arith, l.long)));
-  }
-
-  pub laid_end : 17 ≤ k → z ≡ paste d at s 17
-  laid_end h =
-      let e : k ≡ 17 = omega (arith, l.done) in
-      rw e at l.is
-
--- an array of 17 is then the lanes
-pub laid_whole : {d s z : List ℤ} {k : ℕ} → Laid d 0 s z k → 17 ≤ k → length d ≡ 17 → z ≡ s
-laid_whole {d} {s} l h e = laid_end l h ∙ sym (take_all 17 (paste d 0 s 17) (omega (arith, length-paste d 0 s 17 l.room (omega (arith, l.long))))) ∙ lanes_pasted d 0 s (omega arith) l.long
-
--- a loop that lays over x, lane by lane, what f makes of x and y
+-- a loop that writes over x, lane by lane, what f makes of x and y
 module _ (f : ℤ → ℤ → ℤ) (x y : List ℤ) (wide : length x ≡ 17) (same : length y ≡ 17) where
-  pub zipped_start : Laid x 0 (zipped f x y) x 0
-  zipped_start = laid_start x 0 (zipped f x y) (omega arith) (length-zipped f x y (omega arith) ∙ wide)
+  pub zipped_more : {z : List ℤ} {k : ℕ} (v : ℤ) → Reached (zipped f x y) x z k → k < 17 → v ≡ f (get_or x k (pos 0)) (get_or y k (pos 0)) → Reached (zipped f x y) x (set z k v) (k + 1)
+  zipped_more {k = k} v r h e =
+      let long = length-zipped f x y (wide ∙ sym same) in
+      reached_more r (pos 0) v (omega (arith, r.long)) (omega arith) (e ∙ sym (zipped_at f x y k (omega arith) (omega arith)))
 
-  pub zipped_more : {z : List ℤ} {k : ℕ} {v : ℤ} → Laid x 0 (zipped f x y) z k → k < 17 → v ≡ f (get_or x k (pos 0)) (get_or y k (pos 0)) → Laid x 0 (zipped f x y) (set z k v) (k + 1)
-  zipped_more {k = k} {v = v} l h e = laid_more l k v h (sym (zero-add k)) (e ∙ sym (zipped_at f x y k (omega arith) (omega arith)))
+  pub zipped_all : {z : List ℤ} {k : ℕ} → Reached (zipped f x y) x z k → 17 ≤ k → z ≡ zipped f x y
+  zipped_all r h = reached_all r (pos 0) (omega (arith, r.long)) (length-zipped f x y (wide ∙ sym same))
 
 -- ---- a loop that lays a low and a high in each turn: z has those of s at the first k places, and at those from m on
 pub record Halved (s z : List ℤ) (m k : ℕ) : Type 0 where
@@ -222,11 +193,7 @@ one_above (a ∷ x) (b ∷ y) (suc k) h l e = and_false (le_z a b) (at_most x y)
 pub record Asked (x y : List ℤ) (ok : Bool) (k : ℕ) : Type 0 where
   pub wide : length x ≡ 17
   pub same : length y ≡ 17
-  pub done : k ≤ 17
   pub is : (ok && at_most (drop k x) (drop k y)) ≡ at_most x y
-
-pub asked_start : (x y : List ℤ) → length x ≡ 17 → length y ≡ 17 → Asked x y true 0
-asked_start x y e f = record { wide = e; same = f; done = omega arith; is = refl }
 
 module _ {x y : List ℤ} {ok : Bool} {k : ℕ} (a : Asked x y ok k) where
   turn : k < 17 → (t : Bool) → le_z (get_or x k (pos 0)) (get_or y k (pos 0)) ≡ t → at_most x y ≡ (ok && (t && at_most (drop (k + 1) x) (drop (k + 1) y)))
@@ -235,15 +202,10 @@ module _ {x y : List ℤ} {ok : Bool} {k : ℕ} (a : Asked x y ok k) where
       ∙ rw (drop-cons x k (pos 0) (omega (arith, a.wide)), drop-cons y k (pos 0) (omega (arith, a.same)), e, add-one)
 
   pub asked_above : k < 17 → lt_z (get_or y k (pos 0)) (get_or x k (pos 0)) ≡ true → Asked x y false (k + 1)
-  asked_above h e = record {
-    wide = a.wide;
-    same = a.same;
-    done = omega arith;
-    is = sym (turn h false (omega zarith) ∙ and_false ok false refl);
-  }
+  asked_above h e = record { wide = a.wide; same = a.same; is = sym (turn h false (omega zarith) ∙ and_false ok false refl) }
 
   pub asked_within : k < 17 → lt_z (get_or y k (pos 0)) (get_or x k (pos 0)) ≡ false → Asked x y ok (k + 1)
-  asked_within h e = record { wide = a.wide; same = a.same; done = omega arith; is = sym (turn h true (omega zarith)) }
+  asked_within h e = record { wide = a.wide; same = a.same; is = sym (turn h true (omega zarith)) }
 
   asked_end : 17 ≤ k → ok ≡ at_most x y
   asked_end h =

@@ -5,11 +5,11 @@ use mathlib.Core.List.{List, [], ◌∷◌, ◌++◌, map, append-nil}
 use Prim.Native.Nat.{ℕ, suc, ◌+◌, ◌*◌, ◌≤◌, ◌<◌}
 use native.Mathlib.Omega.{arith}
 use lib.Dec.{T, leb}
-use lib.ListN.{length, get_or, set, drop, replicate, length-map, length-append, length-drop, drop_of_length-le, get_or-replicate, get_or-eq_default}
+use lib.ListN.{length, get_or, set, drop, replicate, length-map, drop_of_length-le, get_or-replicate, get_or-eq_default}
 use lib.Seq.{set-get_or, get_or-drop, get_or-append-add}
 use lib.IntN.{ℤ, pos, neg_ℤ, ◌-ℤ◌}
 use mir.Syntax.{w32}
-use mir.Val.{SFits}
+use mir.Val.{SFits, of_z}
 use Rattle.laws.specs.Z.{zarith, dif, neg, eq_z, Within, widen, fits32, back, back_is}
 use Rattle.laws.specs.Lists.{gather, from, padded}
 use Rattle.laws.proofs.Lists.{length_from, cond_first, cond_second, from_more}
@@ -20,6 +20,7 @@ use Rattle.lent.proofs.Lanes.{length-block, block_low, block_high, block_cost, n
 use Rattle.lent.proofs.Whole.{node_long}
 use Rattle.lanes.proofs.Laws.{turned_within, Halved, halved_more}
 use Rattle.rows.proofs.Laid.{laid_on}
+use Rattle.rows.proofs.Lanes.{bits_yes}
 
 -- ---- a number with its sign turned, as the code has it
 module _ {z : ℤ} {m : ℕ} (h : Within m z) (t : T (leb m 2147483647)) where
@@ -50,11 +51,6 @@ stored_start m d u [] e = absurd (omega arith)
 stored_start m d u (x ∷ c) e = record { long = e; done = omega arith; is = refl }
 
 module _ {m r : ℕ} {d u c₀ c : List ℤ} (s : Stored m d u c₀ c r) where
-  pub stored_length : length c ≡ 4 * m + 3
-  stored_length =
-      let k : length (pos 1 ∷ gather (rule_of d u) (from 0 r)) ≡ 4 * r + 1 = omega (arith, rules_long d u r) in
-      ap length s.is ∙ length-append (pos 1 ∷ gather (rule_of d u) (from 0 r)) (drop (4 * r + 1) c₀) ∙ omega (arith, length-drop (4 * r + 1) c₀, s.long, s.done)
-
   pub stored_more : {a b e f : ℤ} → r < m → a ≡ get_or d r (pos 0) → b ≡ neg_ℤ (get_or d (8 + r) (pos 0)) → e ≡ get_or u r (pos 0) → f ≡ neg_ℤ (get_or u (8 + r) (pos 0))
       → Stored m d u c₀ (set (set (set (set c (4 * r + 1) a) (4 * r + 2) b) (4 * r + 3) e) (4 * r + 4) f) (r + 1)
   stored_more h ea eb ee ef =
@@ -195,6 +191,17 @@ module _ (m : ℕ) (c : List ℤ) (there : eq_z (get_or c 0 (pos 0)) (pos 0) ≡
     down_more {r = r} l h ea eb = halved_more l h (ea ∙ down_low r few h) (eb ∙ ap neg_ℤ (down_high r few h) ∙ neg_neg (get_or (down_lanes m c) (8 + r) (pos 0)))
 
 -- ---- cells that hold down numbers only
+-- the first is 0 or 1
+half_first : (m : ℕ) (c : List ℤ) → HalfNode m c → Within 1 (get_or c 0 (pos 0))
+half_first m c half = rw half (go (far (down_lanes m c)))
+  where
+    go : (t : Bool) → Within 1 (get_or (cond (t || false) (replicate (4 * m + 3) (pos 0)) (pos 1 ∷ gather (rule_of (down_lanes m c) (replicate 17 (pos 0))) (from 0 m) ++ (get_or (down_lanes m c) 16 (pos 0) ∷ pos 0 ∷ []))) 0 (pos 0))
+    go true = rw (get_or-replicate (4 * m + 3) 0 (pos 0) (pos 0) (omega arith)) (record { size = omega arith })
+    go false = record { size = omega arith }
+
+pub half_cell : (m : ℕ) (c : List ℤ) → HalfNode m c → of_z w32 (get_or c 0 (pos 0)) ≡ 0 → eq_z (get_or c 0 (pos 0)) (pos 0) ≡ true
+half_cell m c half e = bits_yes (get_or c 0 (pos 0)) 0 (half_first m c half) tt (omega arith) e
+
 module _ (m : ℕ) (c : List ℤ) (half : HalfNode m c) where
   pub half_long : length c ≡ 4 * m + 3
   half_long = ap length half ∙ node_long m (down_lanes m c) (replicate 17 (pos 0))

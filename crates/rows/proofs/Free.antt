@@ -5,17 +5,16 @@ use mathlib.Core.List.{List, [], ◌∷◌, ◌++◌, map, map-append}
 use Prim.Native.Nat.{ℕ, zero, suc, ◌+◌, ◌*◌, ◌≤◌, ◌<◌}
 use native.Mathlib.Nat.{suc-add}
 use native.Mathlib.Omega.{arith}
-use lib.ListN.{length, get_or, set, take, drop, replicate, length-map, length-append, length-set, drop_of_length-le, get_or-append}
-use lib.Seq.{set-append_left, set_at, set-get_or, split_at, length-take-le, drop-cons, get_or-take}
+use lib.ListN.{length, get_or, set, replicate, length-map, length-append, length-set}
+use lib.Seq.{set-append_left, set_at, set-get_or}
 use lib.IntN.{ℤ, pos, neg_ℤ, ◌+ℤ◌, ◌-ℤ◌}
-use Rattle.laws.specs.Z.{zarith, sum, dif, neg, eq_z}
+use Rattle.laws.specs.Z.{zarith, sum, dif, neg, eq_z, Within, sum_within, back, back_is}
 use Rattle.laws.specs.Lists.{from, padded}
 use Rattle.laws.proofs.Lists.{length_from, from_more}
 use Rattle.laws.proofs.Filled.{length-padded, padded_more}
 use Rattle.lent.specs.Lanes.{zipped}
 use Rattle.lent.specs.Passes.{down_lanes, room_lanes}
-use Rattle.lanes.proofs.Laws.{length-zipped}
-use Rattle.rows.proofs.Laid.{Copied, copied_end}
+use Rattle.lanes.proofs.Laws.{length-zipped, turned_within}
 use Rattle.rows.proofs.Cells.{low, high, lows, highs, down_long, down_is}
 
 -- ---- places below r, and one more
@@ -69,7 +68,7 @@ drawn_more c r h =
     ∙ set-append_left (lows c (r + 1) ++ highs c r) end (8 + r) (high c r) (omega (arith, both c (r + 1) r))
     ∙ ap (λ l. l ++ end) second
 
--- ---- x is the room after r rules, l what it was before them
+-- ---- x is the room after r rules, l is the limit
 pub record Roomed (m : ℕ) (c l x : List ℤ) (r : ℕ) : Type 0 where
   pub few : m ≤ 8
   pub done : r ≤ m
@@ -80,9 +79,6 @@ pub roomed_start : (m : ℕ) (c l : List ℤ) → m ≤ 8 → length l ≡ 17 �
 roomed_start m c l h e = record { few = h; done = omega arith; long = e; is = sym (rw e at (zipped_zeros l)) }
 
 module _ {m r : ℕ} {c l x : List ℤ} (s : Roomed m c l x r) where
-  pub roomed_long : length x ≡ 17
-  roomed_long = ap length s.is ∙ length-zipped ◌-ℤ◌ l (drawn c r) (s.long ∙ sym (drawn_long c r)) ∙ s.long
-
   pub roomed_more : {a b : ℤ} → r < m → a ≡ get_or l r (pos 0) -ℤ low c r → b ≡ get_or l (8 + r) (pos 0) -ℤ high c r → Roomed m c l (set (set x r a) (8 + r) b) (r + 1)
   roomed_more {a} {b} h ea eb =
       let old = drawn c r in
@@ -98,37 +94,26 @@ module _ {m r : ℕ} {c l x : List ℤ} (s : Roomed m c l x r) where
             ∙ (λ i. zipped ◌-ℤ◌ (set-get_or l (8 + r) (pos 0) i) (drawn_more c r below i));
       }
 
-  -- y is the limit: the room had all its lanes but the last
-  pub roomed_end : (y d : List ℤ) {a : ℤ} → m ≤ r → eq_z (get_or c 0 (pos 0)) (pos 0) ≡ false → l ≡ take 16 y ++ drop 16 d → length y ≡ 17 → length d ≡ 17 → a ≡ get_or y 16 (pos 0) -ℤ get_or c (4 * m + 1) (pos 0)
-      → set x 16 a ≡ zipped ◌-ℤ◌ y (down_lanes m c)
-  roomed_end y d {a} h there el ey ed ea =
+  pub roomed_end : {a : ℤ} → m ≤ r → eq_z (get_or c 0 (pos 0)) (pos 0) ≡ false → a ≡ get_or l 16 (pos 0) -ℤ get_or c (4 * m + 1) (pos 0) → set x 16 a ≡ zipped ◌-ℤ◌ l (down_lanes m c)
+  roomed_end h there ea =
       let o : r ≡ m = omega (arith, s.done) in
       let cost = get_or c (4 * m + 1) (pos 0) in
-      let last = get_or y 16 (pos 0) in
-      let rest : drop 16 d ≡ get_or d 16 (pos 0) ∷ drop 17 d = drop-cons d 16 (pos 0) (omega arith) in
-      let behind : drop 17 d ≡ drop 17 y = drop_of_length-le d {i = 17} (omega arith) ∙ sym (drop_of_length-le y {i = 17} (omega arith)) in
-      let limit : set l 16 last ≡ y =
-      ap (λ k. set k 16 last) (el ∙ ap (λ k. take 16 y ++ k) rest) ∙ set_at (take 16 y) (get_or d 16 (pos 0)) (drop 17 d) last 16 (length-take-le 16 y (omega arith)) ∙ ap (λ k. take 16 y ++ last ∷ k) behind
-      ∙ sym (split_at y 16 (pos 0) (omega arith)) in
+      let last = get_or l 16 (pos 0) in
       let numbers : set (drawn c m) 16 cost ≡ down_lanes m c = set_at (lows c m ++ highs c m) (pos 0) [] cost 16 (both c m m) ∙ sym (down_is m c there) in
       (λ i. set (s.is i) 16 (ea i)) ∙ ap (λ k. set (zipped ◌-ℤ◌ l (drawn c k)) 16 (last -ℤ cost)) o ∙ zipped_set ◌-ℤ◌ l (drawn c m) 16 last cost (s.long ∙ sym (drawn_long c m))
-      ∙ (λ i. zipped ◌-ℤ◌ (limit i) (numbers i))
-
--- ---- the lanes that are copied first
-module _ (y d : List ℤ) {l : List ℤ} {k : ℕ} (s : Copied (take 16 y) d l k) (h : 16 ≤ k) (wide : length y ≡ 17) where
-  pub copied_is : l ≡ take 16 y ++ drop 16 d
-  copied_is =
-      let long : length (take 16 y) ≡ 16 = length-take-le 16 y (omega arith) in
-      copied_end s (omega arith) ∙ ap (λ n. take 16 y ++ drop n d) long
-
-  pub copied_at : (r : ℕ) → r < 16 → get_or y r (pos 0) ≡ get_or l r (pos 0)
-  copied_at r b =
-      let long : length (take 16 y) ≡ 16 = length-take-le 16 y (omega arith) in
-      sym (ap (λ m. get_or m r (pos 0)) copied_is ∙ get_or-append (take 16 y) (drop 16 d) (pos 0) r (omega arith) ∙ get_or-take 16 y r (pos 0) b)
+      ∙ (λ i. zipped ◌-ℤ◌ (set-get_or l 16 (pos 0) i) (numbers i))
 
 -- a sum is the difference from the number with its sign turned
 pub plus_turned : (a b : ℤ) → a +ℤ b ≡ a -ℤ neg_ℤ b
 plus_turned a b = omega (zarith, sum a b, neg b, dif a (neg_ℤ b))
+
+-- as the code has them
+module _ {a b : ℤ} (h : Within 4000000 a) (k : Within 4000000 b) where
+  pub sum_told : back (back a +ℤ back b) ≡ a +ℤ b
+  sum_told = rw (back_is h tt, back_is k tt) (back_is (sum_within h k) tt)
+
+  pub dif_told : back (back a -ℤ back b) ≡ a -ℤ b
+  dif_told = rw (back_is h tt, back_is k tt) (back_is (sum_within h (turned_within k)) tt)
 
 -- ---- the three rooms
 module _ (m : ℕ) (free : Bool) (limit c : List ℤ) where

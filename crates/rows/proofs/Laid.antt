@@ -1,12 +1,12 @@
--- What does a buffer hold while a loop lays elements or parts in it, one behind the other, and what is left to lay?
+-- What does a buffer hold while a loop lays parts in it, one behind the other, and what is left to lay?
 use mathlib.Core.Path.{◌≡◌, refl, sym, ap, ◌∙◌}
 use mathlib.Core.List.{List, [], ◌∷◌, ◌++◌, append_assoc, append-nil}
 use Prim.Native.Nat.{ℕ, suc, ◌+◌, ◌-◌, ◌*◌, ◌≤◌, ◌<◌}
 use native.Mathlib.Nat.{zero-mul, suc-mul, mul-le-mul_right}
 use native.Mathlib.Numerals.{add-one}
 use native.Mathlib.Omega.{arith}
-use lib.ListN.{length, get_or, set, take, drop, replicate, take-append-drop, length-append, length-drop, length-replicate, get_or-replicate}
-use lib.Seq.{length-take-le, sets, sets-eq, paste, length-paste, take-paste, drop-paste, take_all, take_at, take-suc, drop-length, drop-append-add, drop-drop, take-add, get_or-take}
+use lib.ListN.{length, take, drop, take-append-drop, length-append, length-drop}
+use lib.Seq.{length-take-le, sets, sets-eq, paste, length-paste, take-paste, drop-paste, take_all, take_at, drop-length, drop-append-add, drop-drop, take-add}
 use Rattle.laws.specs.Lists.{parted}
 
 next_place : (j n : ℕ) → (j + 1) * n ≡ j * n + n
@@ -111,47 +111,3 @@ module _ {A : Type 0} {n w : ℕ} {rest : ℕ → List A} {d : List A} where
     -- nothing stands behind the parts
     pub laying_all : w ≤ j → rest w ≡ [] → length d ≡ w * n → c ≡ rest 0
     laying_all h none e = laying_end h none ∙ rw (← e, drop-length d) (append-nil (rest 0))
-
--- ---- a loop that lays the elements of s over d, one in a turn: c is what it has after k of them
-pub record Copied {A : Type 0} (s d c : List A) (k : ℕ) : Type 0 where
-  pub done : k ≤ length s
-  pub room : length s ≤ length d
-  pub is : c ≡ take k s ++ drop k d
-
-module _ {A : Type 0} {s d : List A} where
-  pub copied_start : length s ≤ length d → Copied s d d 0
-  copied_start h = record { done = omega arith; room = h; is = refl }
-
-  module _ {c : List A} {k : ℕ} (l : Copied s d c k) where
-    pub copied_long : length c ≡ length d
-    copied_long = ap length l.is ∙ length-append (take k s) (drop k d) ∙ omega (arith, l.done, l.room, length-take-le k s l.done, length-drop k d)
-
-    copied_more : {a : A} (z : A) → k < length s → a ≡ get_or s k z → Copied s d (set c k a) (k + 1)
-    copied_more {a} z h e =
-        let more : take k s ++ a ∷ [] ≡ take (k + 1) s = rw (e, add-one) (sym (take-suc s k z h)) in
-        record {
-          done = omega arith;
-          room = l.room;
-          is = ap (λ r. set r k a) l.is ∙ laid_on (take k s) d (a ∷ []) k (length-take-le k s l.done) (omega (arith, l.room)) ∙ ap (λ r. r ++ drop (k + 1) d) more;
-        }
-
-    pub copied_end : length s ≤ k → c ≡ s ++ drop (length s) d
-    copied_end h =
-        let o : k ≡ length s = omega (arith, l.done) in
-        l.is ∙ rw o (ap (λ r. r ++ drop (length s) d) (take_all (length s) s (omega arith)))
-
--- the first n elements of a list
-pub part_more : {A : Type 0} (n : ℕ) (s : List A) {d c : List A} {k : ℕ} {a : A} (z : A) → n ≤ length s → Copied (take n s) d c k → k < n → a ≡ get_or s k z → Copied (take n s) d (set c k a) (k + 1)
-part_more n s {k = k} z h l b e = copied_more l z (omega (arith, length-take-le n s h)) (e ∙ sym (get_or-take n s k z b))
-
--- n times the same
-module _ {A : Type 0} (n : ℕ) (z : A) {d : List A} where
-  pub filled_start : n ≤ length d → Copied (replicate n z) d d 0
-  filled_start h = copied_start (omega (arith, length-replicate n z))
-
-  module _ {c : List A} {k : ℕ} (l : Copied (replicate n z) d c k) where
-    pub filled_more : {a : A} → k < n → a ≡ z → Copied (replicate n z) d (set c k a) (k + 1)
-    filled_more b e = copied_more l z (omega (arith, length-replicate n z)) (e ∙ sym (get_or-replicate n k z z b))
-
-    pub filled_end : n ≤ k → c ≡ replicate n z ++ drop n d
-    filled_end h = copied_end l (omega (arith, length-replicate n z)) ∙ ap (λ j. replicate n z ++ drop j d) (length-replicate n z)

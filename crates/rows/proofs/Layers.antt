@@ -5,14 +5,14 @@ use Prim.Native.Nat.{ℕ, zero, suc, ◌+◌, ◌-◌, ◌*◌, ◌<◌}
 use native.Mathlib.Nat.{zero-mul, suc-mul}
 use native.Mathlib.Numerals.{add-one}
 use native.Mathlib.Omega.{arith}
-use lib.ListN.{length, take, drop, replicate, length-append, length-drop, replicate-append-replicate}
-use lib.Seq.{length-take-le, take_at, take-add, drop_at, drop-drop}
-use lib.IntN.{ℤ, pos}
+use lib.ListN.{length, take, drop, length-append, length-drop}
+use lib.Seq.{length-take-le, take_at, drop_at}
+use lib.IntN.{ℤ}
 use Rattle.laws.specs.Lists.{flat, from, parted}
 use Rattle.laws.proofs.Each.{Each, each_below, each_take, each_drop}
 use Rattle.laws.proofs.Filled.{take_within, get_or-parted}
 use Rattle.lent.specs.Lanes.{lanes_at}
-use Rattle.lent.specs.Passes.{nowhere, node_lanes, down_lanes, down_cells, up_cells, test_node, test_layer}
+use Rattle.lent.specs.Passes.{node_lanes, down_lanes, down_cells, up_cells, test_node, test_layer}
 use Rattle.lent.proofs.Whole.{parted_count}
 use Rattle.rows.proofs.Laid.{place_in, parted_next}
 
@@ -69,51 +69,6 @@ module _ {A B : Type 0} (f : List A → List B) (w n : ℕ) (l : List A) where
 
   pub made_all : made 0 ≡ flat (map f (parted w n l))
   made_all = ap (λ p. flat (map f p)) (left_all w n l)
-
--- ---- the nodes that are cleared, and those that are copied
-module _ (w : ℕ) where
-  behind_next : (j n : ℕ) → j < w → (w - j) * n ≡ n + (w - (j + 1)) * n
-  behind_next j n h =
-      let o : w - j ≡ suc (w - (j + 1)) = omega arith in
-      rw o (suc-mul (w - (j + 1)) n ∙ omega arith)
-
-  none_left : (n : ℕ) → (w - w) * n ≡ 0
-  none_left n =
-      let o : w - w ≡ 0 = omega arith in
-      rw o (zero-mul n)
-
-  all_left : (n : ℕ) → (w - 0) * n ≡ w * n
-  all_left n =
-      let o : w - 0 ≡ w = omega arith in
-      rw o refl
-
-  abbrev pub clear_left : ℕ → List ℤ
-  clear_left j = replicate ((w - j) * 17) (pos 4000000)
-
-  pub clear_next : (j : ℕ) → j < w → clear_left j ≡ nowhere ++ clear_left (j + 1)
-  clear_next j h = ap (λ k. replicate k (pos 4000000)) (behind_next j 17 h) ∙ sym (replicate-append-replicate 17 ((w - (j + 1)) * 17) (pos 4000000))
-
-  pub clear_none : clear_left w ≡ []
-  clear_none = ap (λ k. replicate k (pos 4000000)) (none_left 17)
-
-  pub clear_all : clear_left 0 ≡ replicate (w * 17) (pos 4000000)
-  clear_all = ap (λ k. replicate k (pos 4000000)) (all_left 17)
-
-  module _ (l : List ℤ) where
-    abbrev pub copy_left : ℕ → List ℤ
-    copy_left j = take ((w - j) * 17) (drop (j * 17) l)
-
-    pub copy_next : (j : ℕ) → j < w → copy_left j ≡ lanes_at l (j * 17) ++ copy_left (j + 1)
-    copy_next j h =
-        let place : (j + 1) * 17 ≡ j * 17 + 17 = omega arith in
-        ap (λ k. take k (drop (j * 17) l)) (behind_next j 17 h) ∙ take-add 17 ((w - (j + 1)) * 17) (drop (j * 17) l)
-        ∙ ap (λ r. lanes_at l (j * 17) ++ take ((w - (j + 1)) * 17) r) (drop-drop 17 (j * 17) l ∙ ap (λ k. drop k l) (sym place))
-
-    pub copy_none : copy_left w ≡ []
-    copy_none = ap (λ k. take k (drop (w * 17) l)) (none_left 17)
-
-    pub copy_all : copy_left 0 ≡ take (w * 17) l
-    copy_all = ap (λ k. take k l) (all_left 17)
 
 -- ---- down
 module _ (m w : ℕ) (here : List ℤ) where

@@ -1,6 +1,6 @@
 -- What has a loop over a node's arcs made of its up numbers and bytes at each turn, and one over a layer's nodes of the layer?
 use mathlib.Core.Path.{◌≡◌, refl, sym, ap, ◌∙◌, subst}
-use mathlib.Core.Bool.{Bool, true, false, not, ◌&&◌, cond}
+use mathlib.Core.Bool.{Bool, true, false, not, ◌&&◌, ◌||◌, cond}
 use mathlib.Core.List.{List, [], ◌∷◌, ◌++◌, append-nil}
 use Prim.Native.Nat.{ℕ, zero, suc, ◌+◌, ◌-◌, ◌*◌, ◌≤◌, ◌<◌}
 use native.Mathlib.Numerals.{add-one}
@@ -12,7 +12,7 @@ use lib.Seq.{length-take-le, take_all, take-suc, take-suc-set, drop-cons, drop-s
 use lib.IntN.{ℤ, ◌+ℤ◌}
 use Rattle.laws.specs.Z.{min_z, Within, widen}
 use Rattle.laws.specs.Lists.{flat, same}
-use Rattle.laws.proofs.Lists.{and_true, and_false}
+use Rattle.laws.proofs.Lists.{and_true}
 use Rattle.laws.proofs.Each.{Each, each_append, each_more}
 use Rattle.lent.specs.Lanes.{lanes_at, arc_at, leasts, at_most}
 use Rattle.lent.specs.Passes.{Bytes, far, nowhere, arc_lanes, raise, raise_node, raise_layer, test_byte, test_node}
@@ -73,9 +73,27 @@ same_append [] (y ∷ b) c d e = absurd (omega arith)
 same_append (x ∷ a) [] c d e = absurd (omega arith)
 same_append (x ∷ a) (y ∷ b) c d e = ap (λ t. eqb x y && t) (same_append a b c d (omega arith)) ∙ and_assoc (eqb x y) (same a b) (same c d)
 
+pub not_and : (a b : Bool) → (not a || not b) ≡ not (a && b)
+not_and true b = refl
+not_and false b = refl
+
 pub length_test : (row next room : List ℤ) (v : ℕ) (bs : List ℕ) → length (test_node row next room v bs) ≡ length bs
 length_test row next room v [] = refl
 length_test row next room v (b ∷ bs) = ap suc (length_test row next room (suc v) bs)
+
+-- ---- an arc leads to the place before its byte: its child has no numbers, or z is what it brings up
+module _ (row next room up : List ℤ) (v : ℕ) where
+  pub arc_lone : (b : ℕ) → 1 ≤ b → far (lanes_at next ((b - 1) * 17)) ≡ true → (up ≡ raise row next v b up) × (0 ≡ test_byte row next room v b)
+  arc_lone zero h f = absurd (omega arith)
+  arc_lone (suc k) h f =
+      let o : suc k - 1 ≡ k = omega arith in
+      rw (rw o at f) (refl, refl)
+
+  pub arc_near : (b : ℕ) {z : List ℤ} → 1 ≤ b → far (lanes_at next ((b - 1) * 17)) ≡ false → z ≡ arc_lanes row next v (b - 1) → (leasts up z ≡ raise row next v b up) × (cond (at_most z room) b 0 ≡ test_byte row next room v b)
+  arc_near zero h f e = absurd (omega arith)
+  arc_near (suc k) h f e =
+      let o : suc k - 1 ≡ k = omega arith in
+      rw (e, o, rw o at f) (refl, refl)
 
 -- ---- a node's arcs: bs, up and fell are what the loop has after v of them
 pub record Tested (row next room : List ℤ) (bs₀ bs : List ℕ) (up : List ℤ) (fell : Bool) (v : ℕ) : Type 0 where
@@ -119,53 +137,21 @@ module _ {row next room up : List ℤ} {bs₀ bs : List ℕ} {fell : Bool} {v : 
         falls = ef ∙ rw (first, front) (ap not (sym both));
       })
 
-  -- a byte that stays is no fall
-  stayed : fell ≡ not (same (take v bs₀) (take v bs) && eqb (get_or bs v 0) (get_or bs v 0))
-  stayed = s.falls ∙ ap not (sym (and_true (same (take v bs₀) (take v bs)) (eqb (get_or bs v 0) (get_or bs v 0)) (eq-eqb (get_or bs v 0) (get_or bs v 0) refl)))
-
   -- no arc
   pub tested_none : v < 8 → get_or bs v 0 ≡ 0 → Tested row next room bs₀ bs up fell (v + 1)
-  tested_none h e = subst (λ l. Tested row next room bs₀ l up fell (v + 1)) (set-get_or bs v 0) (turn (get_or bs v 0) h (rw e refl) (rw e refl) stayed)
+  tested_none h e =
+      let stays : fell ≡ not (same (take v bs₀) (take v bs) && eqb (get_or bs v 0) (get_or bs v 0)) = s.falls ∙ ap not (sym (and_true (same (take v bs₀) (take v bs)) (eqb (get_or bs v 0) (get_or bs v 0)) (eq-eqb (get_or bs v 0) (get_or bs v 0) refl))) in
+      subst (λ l. Tested row next room bs₀ l up fell (v + 1)) (set-get_or bs v 0) (turn (get_or bs v 0) h (rw e refl) (rw e refl) stays)
 
-  -- an arc that stays if ok
-  module _ (h : v < 8) (f : get_or bs v 0 ≡ 0 → ⊥) where
-    arc : (ok : Bool) {up' : List ℤ} → cond ok (get_or bs v 0) 0 ≡ test_byte row next room v (get_or bs v 0) → up' ≡ raise row next v (get_or bs v 0) up
-        → Tested row next room bs₀ (set bs v (cond ok (get_or bs v 0) 0)) up' (cond ok fell true) (v + 1)
-    arc true et eu = turn (get_or bs v 0) h et eu stayed
-    arc false et eu = turn 0 h et eu (sym (ap not (and_false (same (take v bs₀) (take v bs)) (eqb (get_or bs v 0) 0) (ne_eqb (get_or bs v 0) 0 f))))
-
-    -- its child has no numbers
-    pub tested_lone : far (lanes_at next ((get_or bs v 0 - 1) * 17)) ≡ true → Tested row next room bs₀ (set bs v 0) up true (v + 1)
-    tested_lone lone = arc false (byte (get_or bs v 0) f lone) (same_up (get_or bs v 0) f lone)
-      where
-        byte : (b : ℕ) → (b ≡ 0 → ⊥) → far (lanes_at next ((b - 1) * 17)) ≡ true → 0 ≡ test_byte row next room v b
-        byte zero g e = refl
-        byte (suc k) g e =
-            let o : suc k - 1 ≡ k = omega arith in
-            sym (rw (rw o at e) refl)
-
-        same_up : (b : ℕ) → (b ≡ 0 → ⊥) → far (lanes_at next ((b - 1) * 17)) ≡ true → up ≡ raise row next v b up
-        same_up zero g e = refl
-        same_up (suc k) g e =
-            let o : suc k - 1 ≡ k = omega arith in
-            sym (rw (rw o at e) refl)
-
-    -- its child has: z, least and ok are what the turn reckons
-    pub tested_near : {z least : List ℤ} {ok : Bool} → far (lanes_at next ((get_or bs v 0 - 1) * 17)) ≡ false → z ≡ arc_lanes row next v (get_or bs v 0 - 1) → least ≡ leasts up z → ok ≡ at_most z room
-        → Tested row next room bs₀ (set bs v (cond ok (get_or bs v 0) 0)) least (cond ok fell true) (v + 1)
-    tested_near {z} {least} {ok} near ez el eo = arc ok (rw (eo, ez) (byte (get_or bs v 0) f near)) (el ∙ rw ez (counts (get_or bs v 0) f near))
-      where
-        byte : (b : ℕ) → (b ≡ 0 → ⊥) → far (lanes_at next ((b - 1) * 17)) ≡ false → cond (at_most (arc_lanes row next v (b - 1)) room) b 0 ≡ test_byte row next room v b
-        byte zero g e = absurd (g refl)
-        byte (suc k) g e =
-            let o : suc k - 1 ≡ k = omega arith in
-            rw (o, rw o at e) refl
-
-        counts : (b : ℕ) → (b ≡ 0 → ⊥) → far (lanes_at next ((b - 1) * 17)) ≡ false → leasts up (arc_lanes row next v (b - 1)) ≡ raise row next v b up
-        counts zero g e = absurd (g refl)
-        counts (suc k) g e =
-            let o : suc k - 1 ≡ k = omega arith in
-            rw (o, rw o at e) refl
+  -- an arc that stays or falls; up' and fell' are what the turn makes of it
+  pub tested_arc : (stays : Bool) {up' : List ℤ} {fell' : Bool} → v < 8 → (get_or bs v 0 ≡ 0 → ⊥) → cond stays (get_or bs v 0) 0 ≡ test_byte row next room v (get_or bs v 0) → up' ≡ raise row next v (get_or bs v 0) up → fell' ≡ (fell || not stays)
+      → Tested row next room bs₀ (set bs v (cond stays (get_or bs v 0) 0)) up' fell' (v + 1)
+  tested_arc stays h f et eu ef =
+      turn (cond stays (get_or bs v 0) 0) h et eu (ef ∙ ap (λ t. t || not stays) s.falls ∙ not_and (same (take v bs₀) (take v bs)) stays ∙ ap (λ t. not (same (take v bs₀) (take v bs) && t)) (told stays))
+    where
+      told : (t : Bool) → t ≡ eqb (get_or bs v 0) (cond t (get_or bs v 0) 0)
+      told true = sym (eq-eqb (get_or bs v 0) (get_or bs v 0) refl)
+      told false = sym (ne_eqb (get_or bs v 0) 0 f)
 
   pub tested_up : 8 ≤ v → up ≡ raise_node row next 0 bs₀ nowhere
   tested_up h =

@@ -1,6 +1,6 @@
 -- What has a loop over a layer's nodes made of its up numbers and bytes at each turn, and did a byte change?
 use mathlib.Core.Path.{◌≡◌, refl, sym, ap, ◌∙◌}
-use mathlib.Core.Bool.{Bool, true, false, not, ◌&&◌, ◌||◌}
+use mathlib.Core.Bool.{Bool, false, not, ◌&&◌, ◌||◌}
 use mathlib.Core.List.{List, [], ◌∷◌, ◌++◌, map, append_assoc}
 use Prim.Native.Nat.{ℕ, suc, ◌+◌, ◌-◌, ◌*◌, ◌≤◌, ◌<◌}
 use native.Mathlib.Omega.{arith}
@@ -16,20 +16,7 @@ use Rattle.lent.proofs.Whole.{parted_count}
 use Rattle.rows.proofs.Laid.{part_long, put, put_pastes, pasted_first, first_next, Laying, laying_start, laying_part, laying_paste, laying_more, laying_end, laying_all}
 use Rattle.rows.proofs.Free.{room_long}
 use Rattle.rows.proofs.Layers.{parted_each, length-flat, parted_back, made, made_next, made_none, made_all, tests_left, tests_next, tests_none, tests_all}
-use Rattle.rows.proofs.Up.{each_layer, rises_long, same_append, length_test}
-
-not_and : (a b : Bool) → (not a || not b) ≡ not (a && b)
-not_and true b = refl
-not_and false b = refl
-
--- whether a byte fell so far, after one more node
-pub fell_now : (fell hit : Bool) {fell' : Bool} → hit ≡ true → fell' ≡ true → fell' ≡ (fell || hit)
-fell_now true hit h e = e
-fell_now false hit h e = e ∙ sym h
-
-pub fell_before : (fell hit : Bool) {fell' : Bool} → hit ≡ false → fell' ≡ fell → fell' ≡ (fell || hit)
-fell_before true hit h e = e
-fell_before false hit h e = e ∙ sym h
+use Rattle.rows.proofs.Up.{each_layer, rises_long, same_append, not_and, length_test}
 
 -- a node's up numbers by its bytes
 abbrev pub rises : List ℤ → List ℤ → List ℕ → List ℤ

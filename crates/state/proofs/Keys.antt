@@ -7,9 +7,8 @@ use native.Mathlib.Nat.{mul-le-mul, mul-le-mul_right, mul-add, add-mul}
 use native.Mathlib.Numerals.{add-one}
 use native.Mathlib.Omega.{arith}
 use lib.IntN.{ℤ, pos, negsuc, nat_abs, ◌+ℤ◌, ◌*ℤ◌, +ℤ_idl, +ℤ_idr, *ℤ-negsuc}
-use lib.Signed.{◌≤ℤ◌}
 use lib.ListN.{length, get_or, take, length-map}
-use Rattle.laws.specs.Z.{zarith, up, dn, sum, neg, parts, assoc, mul_size, sum_size, Within, sum_within, back, back_is, eq_z, eq_z→}
+use Rattle.laws.specs.Z.{zarith, up, dn, sum, neg, assoc, mul_size, sum_size, Within, back, back_is, eq_z, eq_z→}
 use Rattle.laws.proofs.Lists.{get_or_map, and_l, and_r}
 use Rattle.lent.proofs.Lanes.{neg_sum}
 use Rattle.meaning.specs.Diagram as paper
@@ -93,13 +92,6 @@ keyed_same (x ∷ xs) (p ∷ a) (q ∷ b) e =
 
 pub same_bucket : (a b : paper.State) → paper.eq_state a b ≡ true → bucket_of a ≡ bucket_of b
 same_bucket a b e = rw (keyed_same times a b e)
-
--- a billion and a key
-pub bucket_size : {z : ℤ} → Within 1000000000 z → Within 2000000000 (pos 1000000000 +ℤ z)
-bucket_size h = sum_within {a = pos 1000000000} {m = 1000000000} (record { size = omega arith }) h
-
-pub bucket_above : {z : ℤ} → Within 1000000000 z → pos 0 ≤ℤ (pos 1000000000 +ℤ z)
-bucket_above {z} h = omega (zarith, sum (pos 1000000000) z, parts z, h.size)
 
 -- ---- sums
 -- a sum times a number

@@ -1,7 +1,7 @@
 -- Does a loop over the places of a state do one place more in a turn, and all of them in the end?
 use mathlib.Core.Path.{◌≡◌, refl, sym, ap, ◌∙◌}
 use mathlib.Core.List.{List, [], ◌∷◌, ◌++◌, map, append-nil}
-use mathlib.Core.Bool.{Bool, true, false, ◌&&◌, true≢false}
+use mathlib.Core.Bool.{Bool, true, false, ◌&&◌, cond, true≢false}
 use Prim.Native.Nat.{ℕ, zero, suc, ◌+◌, ◌^◌, ◌≤◌, ◌<◌}
 use native.Mathlib.Numerals.{add-one}
 use native.Mathlib.Omega.{arith}
@@ -10,10 +10,14 @@ use lib.ListN.{length, get_or, set, take, drop, drop_of_length-le}
 use lib.Seq.{take_all}
 use lib.Signed.{mag, le_z, lt_z}
 use mir.Syntax.{w32}
-use mir.Val.{SFits, of_z}
+use mir.Val.{SFits}
 use mir.Facts.{to_z-of_z}
-use Rattle.laws.specs.Z.{Within, zarith, neg, min_z, max_z, eq_z, eq_z→, eq_z_no, eq_z_yes, bits_eq, back, told}
-use Rattle.laws.proofs.Lists.{get_or_map, and_true, and_false}
+use Rattle.laws.specs.Z.{Within, zarith, min_z, max_z, back, told}
+use Rattle.std.specs.Bool.{Decides}
+use Rattle.std.specs.Int.{int_min}
+use Rattle.laws.proofs.Lists.{get_or_map, and_true, and_false, no_true}
+use Rattle.meaning.proofs.Sound.{eq_state→}
+use Rattle.lent.proofs.FirstOrder.{eq_state_yes}
 use Rattle.lent.proofs.Lanes.{neg_neg, neg_sum, neg_max}
 use Rattle.meaning.specs.Diagram as paper
 use Rattle.state.specs.declared.Pair.{Pair}
@@ -70,19 +74,11 @@ module _ (f : paper.Pair → paper.Pair → paper.Pair) (s : List Pair) (b : pap
       stored pair_of t k x (joined f (map pair_of s) b) (map pair_of s) no_pair (omega arith) (omega arith) e
       (v ∙ ap (λ p. f p (get_or b k no_pair)) (sym (get_or_map pair_of s k zero_pair no_pair (omega arith))) ∙ sym value)
 
-  pub join_all : (t : List Pair) (k : ℕ) → 8 ≤ k → JoinedTo f s b k t → map pair_of t ≡ joined f (map pair_of s) b
-  join_all t k h e =
-      let n = both_long in
-      e ∙ filled_all k (joined f (map pair_of s) b) (map pair_of s) (omega arith) (omega arith)
-
 -- the same of two states
 module _ (f : paper.Pair → paper.Pair → paper.Pair) (s u : List Pair) (long : length s ≡ 8) (wide : length u ≡ 8) where
   pub pair_more : (t : List Pair) (k : ℕ) (x : Pair) → k < 8 → JoinedTo f s (map pair_of u) k t → pair_of x ≡ f (pair_of (get_or s k zero_pair)) (pair_of (get_or u k zero_pair)) → JoinedTo f s (map pair_of u) (k + 1) (set t k x)
   pair_more t k x h e v =
       join_more f s (map pair_of u) long (pairs_long u wide) t k x h e (v ∙ ap (f (pair_of (get_or s k zero_pair))) (sym (get_or_map pair_of u k zero_pair no_pair (omega arith))))
-
-  pub pair_all : (t : List Pair) (k : ℕ) → 8 ≤ k → JoinedTo f s (map pair_of u) k t → map pair_of t ≡ joined f (map pair_of s) (map pair_of u)
-  pair_all t k h e = join_all f s (map pair_of u) long (pairs_long u wide) t k h e
 
 -- ---- a loop that tests: whether o holds, and all of the first k places of two states pass
 abbrev pub TestedTo : (paper.Pair → paper.Pair → Bool) → Bool → List Pair → List Pair → ℕ → Bool → Type 0
@@ -114,27 +110,34 @@ module _ (f : paper.Pair → paper.Pair → Bool) (o : Bool) (s u : List Pair) (
 pub test_none : (f : paper.Pair → paper.Pair → Bool) (o : Bool) (s u : List Pair) (ok : Bool) → ok ≡ o → TestedTo f o s u 0 ok
 test_none f o s u ok e = e ∙ sym (and_true o true refl)
 
--- a branch that sets a flag to false: where two numbers differ by their bits, where one is above the other
+-- a branch that sets a flag to false where one number is above the other
 module _ (ok next : Bool) (a b : ℤ) where
-  pub differ : next ≡ false → (of_z w32 a ≡ of_z w32 b → ⊥) → next ≡ (ok && eq_z a b)
-  differ e f = e ∙ sym (and_false ok (eq_z a b) (eq_z_no {a = a} {b = b} (λ h. f (ap (of_z w32) h))))
-
-  pub agree : SFits w32 a → SFits w32 b → next ≡ ok → of_z w32 a ≡ of_z w32 b → next ≡ (ok && eq_z a b)
-  agree h l e f = e ∙ sym (and_true ok (eq_z a b) (eq_z_yes {a = a} {b = b} (bits_eq h l f)))
-
   pub above : next ≡ false → lt_z b a ≡ true → next ≡ (ok && le_z a b)
   above e f = e ∙ sym (and_false ok (le_z a b) (omega zarith))
 
   pub below : next ≡ ok → lt_z b a ≡ false → next ≡ (ok && le_z a b)
   below e f = e ∙ sym (and_true ok (le_z a b) (omega zarith))
 
--- numbers with their signs turned are equal where the numbers are
-pub neg_equal : (a b : ℤ) → eq_z (neg_ℤ a) (neg_ℤ b) ≡ eq_z a b
-neg_equal a b = go (eq_z a b) refl
-  where
-    go : (t : Bool) → eq_z a b ≡ t → eq_z (neg_ℤ a) (neg_ℤ b) ≡ t
-    go true e = eq_z_yes {a = neg_ℤ a} {b = neg_ℤ b} (ap neg_ℤ (eq_z→ a b e))
-    go false e = eq_z_no {a = neg_ℤ a} {b = neg_ℤ b} (λ h. absurd (true≢false (sym (eq_z_yes {a = a} {b = b} (omega (zarith, neg a, neg b))) ∙ e)))
+-- ---- two states are the same exactly if their pairs are equal
+-- of one pair each
+turned_back : (a b : ℤ) → neg_ℤ a ≡ neg_ℤ b → a ≡ b
+turned_back a b e = sym (neg_neg a) ∙ ap neg_ℤ e ∙ neg_neg b
+
+pairs_same : (s u : List Pair) → map pair_of s ≡ map pair_of u → s ≡ u
+pairs_same [] [] e = refl
+pairs_same [] (q ∷ u) e = absurd (cc)
+pairs_same (p ∷ s) [] e = absurd (cc)
+pairs_same (p ∷ s) (q ∷ u) e =
+    let first : pair_of p ≡ pair_of q = cc in
+    let rest : map pair_of s ≡ map pair_of u = cc in
+    let low : p.lo ≡ q.lo = ap (λ (x : paper.Pair). x.0) first in
+    let high = turned_back p.hi q.hi (ap (λ (x : paper.Pair). x.1) first) in
+    let here : p ≡ q = (λ i. record { lo = low i; hi = high i }) in
+    λ i. here i ∷ pairs_same s u rest i
+
+pub same_pairs : (s u : List Pair) (r : Bool) → Decides r (s ≡ u) → r ≡ paper.eq_state (map pair_of s) (map pair_of u)
+same_pairs s u true d = sym (eq_state_yes (map pair_of s) (map pair_of u) (ap (map pair_of) (d.0 refl)))
+same_pairs s u false d = sym (no_true (paper.eq_state (map pair_of s) (map pair_of u)) (λ e. true≢false (sym (d.1 (pairs_same s u (eq_state→ (map pair_of s) (map pair_of u) e))))))
 
 -- ---- a place of a state
 pub inside_at : (b : ℕ) (l : List Pair) (k : ℕ) → Inside b (map pair_of l) → Within b (get_or l k zero_pair).lo × Within b (get_or l k zero_pair).hi
@@ -159,6 +162,16 @@ neg_min : (a b : ℤ) → neg_ℤ (min_z a b) ≡ max_z (neg_ℤ a) (neg_ℤ b)
 neg_min a b =
     let e : neg_ℤ (max_z (neg_ℤ a) (neg_ℤ b)) ≡ min_z a b = neg_max (neg_ℤ a) (neg_ℤ b) ∙ rw (neg_neg a, neg_neg b) in
     ap neg_ℤ (sym e) ∙ neg_neg (max_z (neg_ℤ a) (neg_ℤ b))
+
+-- as std says it
+pub least_is : (a b : ℤ) → int_min a b ≡ min_z a b
+least_is a b = go (lt_z b a) (le_z a b) refl refl
+  where
+    go : (s t : Bool) → lt_z b a ≡ s → le_z a b ≡ t → cond s b a ≡ cond t a b
+    go true true e f = absurd (omega zarith)
+    go true false e f = refl
+    go false true e f = refl
+    go false false e f = absurd (omega zarith)
 
 -- as code computes them
 module _ (p q : Pair) (pl : SFits w32 p.lo) (ph : SFits w32 p.hi) (ql : SFits w32 q.lo) (qh : SFits w32 q.hi) where

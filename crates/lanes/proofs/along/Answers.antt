@@ -1,22 +1,12 @@
 use mathlib.Core.Path.{◌∙◌, sym}
 use Prim.Native.Nat.{◌+◌, ◌*◌}
 use borrow.Author.Rules.{rules}
-use Rattle.laws.specs.Z.{back_is, back_within, sum_within, sum32}
+use Rattle.laws.specs.Z.{back_is, sum_within}
 use Rattle.lanes.proofs.Laws.{halved_more, halved_end, lane_within, turned_within, along_start, along_low, along_high, along_cost}
 use Rattle.lanes.proofs.along.Goals as goal
 
 pub loop-k-init : goal.loop-k-init
 loop-k-init c = along_start c.args.row.now c.args.v c.requires.1 c.requires.3 c.args.x (search rules)
-
-pub overflow_add-z : goal.overflow_add-z
-overflow_add-z c =
-    let k = c.loop-k.k in
-    sum32 (back_within (lane_within c.args.x k c.requires.0) tt) (back_within (lane_within c.args.row.now (c.args.v * 8 + k) c.requires.2) tt) tt
-
-pub overflow_sub-z : goal.overflow_sub-z
-overflow_sub-z c =
-    let k = c.loop-k.k in
-    sum32 (back_within (lane_within c.args.x (8 + k) c.requires.0) tt) (turned_within (back_within (lane_within c.args.row.now (c.args.v * 8 + k) c.requires.2) tt)) tt
 
 pub loop-k-preserved : goal.loop-k-preserved
 loop-k-preserved c =
@@ -29,10 +19,6 @@ loop-k-preserved c =
     halved_more l.invariant h
     (rw (back_is low tt, back_is share tt) (back_is (sum_within low share) tt) ∙ sym (along_low row c.args.v c.requires.1 c.requires.3 c.args.x (search rules) l.k h))
     (rw (back_is high tt, back_is share tt) (back_is (sum_within high (turned_within share)) tt) ∙ sym (along_high row c.args.v c.requires.1 c.requires.3 c.args.x (search rules) l.k h))
-
-pub overflow_add-z-2 : goal.overflow_add-z-2
-overflow_add-z-2 c =
-    sum32 (back_within (lane_within c.args.x 16 c.requires.0) tt) (back_within (lane_within c.args.row.now (64 + c.args.v) c.requires.2) tt) tt
 
 pub returns : goal.returns
 returns c =

@@ -1,43 +1,37 @@
 use mathlib.Core.Path.{sym}
+use mathlib.Core.Bool.{true, false}
 use native.Mathlib.Omega.{arith}
 use borrow.Author.Rules.{rules}
 use lib.ListN.{get_or}
 use lib.IntN.{pos}
-use Rattle.laws.specs.Z.{told, zarith}
-use Rattle.lanes.proofs.Laws.{one_above, asked_start, asked_above, asked_within, asked_all}
+use mir.Syntax.{w32}
+use mir.Val.{SFits}
+use Rattle.laws.specs.Z.{flag<}
+use Rattle.lanes.proofs.Laws.{one_above, asked_above, asked_within, asked_all}
 use Rattle.lanes.proofs.at_most.Goals as goal
-use Rattle.lanes.proofs.at_most.Goals.{else-b-a, then-b-a}
+use Rattle.lanes.proofs.at_most.Goals.{else-limit-k, then-limit-k}
 
-pub returns-then-most-cost : goal.returns-then-most-cost
-returns-then-most-cost c =
+pub returns-then-limit-x : goal.returns-then-limit-x
+returns-then-limit-x c =
     let a = c.args in
-    let x = told (get_or a.x 16 (pos 0)) c.cost-1.given in
-    let y = told (get_or a.limit 16 (pos 0)) c.most-1.given in
-    sym (one_above a.x a.limit 16 (search rules) (search rules) (omega (zarith, x, y, c.if-most-cost.true)))
-
-pub loop-k-init : goal.loop-k-init
-loop-k-init c =
-    let a = c.args in
-    (asked_start a.x a.limit (search rules) (search rules), search rules)
+    let x : SFits w32 (get_or a.x 16 (pos 0)) = search rules in
+    let y : SFits w32 (get_or a.limit 16 (pos 0)) = search rules in
+    sym (one_above a.x a.limit 16 (search rules) (search rules) (flag< true y x c.if-limit-x.true))
 
 pub loop-k-preserved : goal.loop-k-preserved
 loop-k-preserved c =
     let a = c.args in
     let l = c.loop-k in
-    let x = told (get_or a.x l.k (pos 0)) c.a-1.given in
-    let y = told (get_or a.limit l.k (pos 0)) c.b-1.given in
-    let h = c.loop-k-test.true in (
-      elim c.if-b-a.branch [
-        | then-b-a w ↦ rw w.ok-is (asked_above l.invariant.0 (omega arith) (omega (zarith, x, y, w.if-b-a.true)))
-        | else-b-a w ↦ rw w.ok-is (asked_within l.invariant.0 (omega arith) (omega (zarith, x, y, w.if-b-a.false)))
-      ],
-      omega arith,
-    )
+    let x : SFits w32 (get_or a.x l.k (pos 0)) = search rules in
+    let y : SFits w32 (get_or a.limit l.k (pos 0)) = search rules in
+    elim c.if-limit-k.branch [
+      | then-limit-k w ↦ rw w.ok-is (asked_above l.invariant (omega arith) (flag< true y x w.if-limit-k.true))
+      | else-limit-k w ↦ rw w.ok-is (asked_within l.invariant (omega arith) (flag< false y x w.if-limit-k.false))
+    ]
 
 pub returns : goal.returns
 returns c =
     let a = c.args in
-    let x = told (get_or a.x 16 (pos 0)) c.cost-1.given in
-    let y = told (get_or a.limit 16 (pos 0)) c.most-1.given in
-    let l = c.loop-k in
-    asked_all l.invariant.0 (omega (arith, l.invariant.1, c.loop-k-test.false)) (omega (zarith, x, y, c.if-most-cost.false))
+    let x : SFits w32 (get_or a.x 16 (pos 0)) = search rules in
+    let y : SFits w32 (get_or a.limit 16 (pos 0)) = search rules in
+    asked_all c.loop-k.invariant (omega arith) (flag< false y x c.if-limit-x.false)

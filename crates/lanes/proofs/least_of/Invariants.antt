@@ -1,11 +1,7 @@
--- `least_of` meets its contract: a turn lays one least.
-use Prim.Native.Nat.{◌-◌}
+-- `least_of` meets its contract: a turn writes one least.
 use Rattle.lent.specs.Lanes.{leasts}
-use Rattle.lanes.proofs.Laws.{Laid}
+use Rattle.laws.proofs.Reached.{Reached}
 use Rattle.lanes.proofs.least_of.Given as goal
 
 abbrev pub invariant-loop-k : goal.invariant-loop-k
-invariant-loop-k l = Laid l.initial.z 0 (leasts l.x l.y) l.z l.k
-
-abbrev pub decreases-loop-k : goal.decreases-loop-k
-decreases-loop-k l = 17 - l.k
+invariant-loop-k l = Reached (leasts l.x l.y) l.fn.x l.z l.k

@@ -1,5 +1,4 @@
 -- `rules_down` meets its contract: a turn stores one rule's numbers.
-use Prim.Native.Nat.{◌-◌}
 use lib.ListN.{replicate}
 use lib.IntN.{pos}
 use Rattle.rows.proofs.Cells.{Stored}
@@ -7,6 +6,3 @@ use Rattle.rows.proofs.rules_down.Given as goal
 
 abbrev pub invariant-loop-r : goal.invariant-loop-r
 invariant-loop-r l = Stored l.m l.down (replicate 17 (pos 0)) l.initial.cells l.cells l.r
-
-abbrev pub decreases-loop-r : goal.decreases-loop-r
-decreases-loop-r l = l.m - l.r

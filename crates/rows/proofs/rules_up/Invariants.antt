@@ -1,11 +1,7 @@
 -- `rules_up` meets its contract: a turn stores one rule's numbers beside those that stand there.
-use Prim.Native.Nat.{◌-◌}
 use Rattle.lent.specs.Passes.{down_lanes}
 use Rattle.rows.proofs.Cells.{Stored}
 use Rattle.rows.proofs.rules_up.Given as goal
 
 abbrev pub invariant-loop-r : goal.invariant-loop-r
-invariant-loop-r l = Stored l.m (down_lanes l.m l.initial.cells) l.up l.initial.cells l.cells l.r
-
-abbrev pub decreases-loop-r : goal.decreases-loop-r
-decreases-loop-r l = l.m - l.r
+invariant-loop-r l = Stored l.m (down_lanes l.m l.fn.cells) l.up l.fn.cells l.cells l.r

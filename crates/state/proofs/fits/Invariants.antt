@@ -1,21 +1,12 @@
 -- A flag that falls at a place past the limit. It is the test of the first k lows, and then of all lows and the first k highs.
-use Prim.Native.Nat.{◌≤◌, ◌-◌}
-use mathlib.Core.Path.{◌≡◌}
 use mathlib.Core.Bool.{true}
-use lib.ListN.{length}
 use Rattle.state.specs.Pairs.{pairs}
 use Rattle.state.proofs.Joined.{joined, fit_low, fit_high, all}
 use Rattle.state.proofs.Turns.{TestedTo}
 use Rattle.state.proofs.fits.Given as goal
 
 abbrev pub invariant-loop-k : goal.invariant-loop-k
-invariant-loop-k l = (length l.s.at ≡ 8) × (length l.limit.at ≡ 8) × (l.k ≤ 8) × TestedTo fit_low true l.s.at l.limit.at l.k l.ok
-
-abbrev pub decreases-loop-k : goal.decreases-loop-k
-decreases-loop-k l = 8 - l.k
+invariant-loop-k l = TestedTo fit_low true l.s.at l.limit.at l.k l.ok
 
 abbrev pub invariant-loop-k-2 : goal.invariant-loop-k-2
-invariant-loop-k-2 l = (length l.s.at ≡ 8) × (length l.limit.at ≡ 8) × (l.k ≤ 8) × TestedTo fit_high (all (joined fit_low (pairs l.s) (pairs l.limit))) l.s.at l.limit.at l.k l.ok
-
-abbrev pub decreases-loop-k-2 : goal.decreases-loop-k-2
-decreases-loop-k-2 l = 8 - l.k
+invariant-loop-k-2 l = TestedTo fit_high (all (joined fit_low (pairs l.s) (pairs l.limit))) l.s.at l.limit.at l.k l.ok

@@ -1,6 +1,6 @@
+use mathlib.Core.Path.{◌≡◌}
+use lib.ListN.{length}
 use Prim.Native.Nat.{◌+◌}
-use mathlib.Core.Path.{◌≡◌, refl}
-use native.Mathlib.Omega.{arith}
 use mir.Syntax.{w32}
 use mir.Val.{to_z}
 use Rattle.laws.specs.Z.{fits32, widen, back_is}
@@ -8,9 +8,6 @@ use Rattle.state.specs.Pairs.{pairs}
 use Rattle.state.proofs.Sizes.{mapped}
 use Rattle.state.proofs.Keys.{key_size, key_more, step_is, step_size}
 use Rattle.state.proofs.key.Goals as goal
-
-pub loop-k-init : goal.loop-k-init
-loop-k-init c = (search mapped, omega arith, refl)
 
 pub overflow_mul-key : goal.overflow_mul-key
 overflow_mul-key c =
@@ -22,16 +19,12 @@ pub overflow_add-key : goal.overflow_add-key
 overflow_add-key c =
     let head = c.loop-k in
     let s = c.args.s in
-    rw (key_more s.at head.k c.requires (to_z w32 head.key-bits) head.invariant.0 (omega arith) head.invariant.2) (fits32 (widen tt (key_size (head.k + 1) (pairs s) c.requires)))
+    let m : length s.at ≡ 8 = search mapped in
+    rw (key_more s.at head.k c.requires (to_z w32 head.key-bits) m c.loop-k-test.true head.invariant) (fits32 (widen tt (key_size (head.k + 1) (pairs s) c.requires)))
 
 pub loop-k-preserved : goal.loop-k-preserved
 loop-k-preserved c =
     let head = c.loop-k in
     let s = c.args.s in
-    (head.invariant.0, omega arith, rw (key_more s.at head.k c.requires (to_z w32 head.key-bits) head.invariant.0 (omega arith) head.invariant.2) (back_is (key_size (head.k + 1) (pairs s) c.requires) tt))
-
-pub returns : goal.returns
-returns c =
-    let head = c.loop-k in
-    let e : head.k ≡ 8 = omega arith in
-    rw e at head.invariant.2
+    let m : length s.at ≡ 8 = search mapped in
+    rw (key_more s.at head.k c.requires (to_z w32 head.key-bits) m c.loop-k-test.true head.invariant) (back_is (key_size (head.k + 1) (pairs s) c.requires) tt)

@@ -1,4 +1,4 @@
-use Prim.Native.Nat.{◌+◌, ◌<◌}
+use Prim.Native.Nat.{◌+◌}
 use mathlib.Core.Path.{◌≡◌, refl, ◌∙◌}
 use mathlib.Core.List.{map}
 use native.Mathlib.Omega.{arith}
@@ -20,31 +20,21 @@ loop-k-init c =
     let d = c.args.row.now in
     let t = pairs c.args.s in
     let first = paste-zero d c.args.at (map (λ p. p.0) t) in
-    (search mapped, omega arith, refl, first ∙ paste-zero (paste d c.args.at (map (λ p. p.0) t) 0) (c.args.at + 8) (map (λ p. neg_ℤ p.1) t))
-
-pub bounds-row-at-in-loop-k : goal.bounds-row-at-in-loop-k
-bounds-row-at-in-loop-k c =
-    let h : c.args.at + 8 + c.loop-k.k < length c.loop-k.row = omega arith in
-    simp length-set h
+    (refl, first ∙ paste-zero (paste d c.args.at (map (λ p. p.0) t) 0) (c.args.at + 8) (map (λ p. neg_ℤ p.1) t))
 
 pub loop-k-preserved : goal.loop-k-preserved
 loop-k-preserved c =
     let head = c.loop-k in
     let s = c.args.s.at in
+    let m : length s ≡ 8 = search mapped in
     let p = get_or s head.k zero_pair in
     let lo : SFits w32 p.lo = search z32 in
-    let hi : SFits w32 p.hi = search z32 in (
-      head.invariant.0,
-      omega arith,
-      simp length-set head.invariant.2,
-      rw (to_z-of_z lo, to_z-of_z hi, head.invariant.3) (laid_more c.args.row.now c.args.at s head.invariant.0 c.requires head.k (omega arith)),
-    )
-
-pub shape_of-row : goal.shape_of-row
-shape_of-row c = c.loop-k.invariant.2
+    let hi : SFits w32 p.hi = search z32 in
+    (simp length-set head.invariant.0, rw (to_z-of_z lo, to_z-of_z hi, head.invariant.1) (laid_more c.args.row.now c.args.at s m c.requires head.k c.loop-k-test.true))
 
 pub returns : goal.returns
 returns c =
     let head = c.loop-k in
+    let m : length c.args.s.at ≡ 8 = search mapped in
     let e : head.k ≡ 8 = omega arith in
-    rw e at head.invariant.3 ∙ laid_all c.args.row.now c.args.at c.args.s.at head.invariant.0 c.requires
+    rw e at head.invariant.1 ∙ laid_all c.args.row.now c.args.at c.args.s.at m c.requires

@@ -1,12 +1,8 @@
 -- Pair by pair from the row. The first k pairs are taken.
-use Prim.Native.Nat.{◌≤◌, ◌-◌}
 use mathlib.Core.Path.{◌≡◌}
 use Rattle.state.specs.Pairs.{pairs, pairs_at}
 use Rattle.state.proofs.Turns.{filled}
 use Rattle.state.proofs.taken.Given as goal
 
 abbrev pub invariant-loop-k : goal.invariant-loop-k
-invariant-loop-k l = (l.k ≤ 8) × (pairs l.s ≡ filled l.k (pairs_at l.row l.at) (pairs l.initial.s))
-
-abbrev pub decreases-loop-k : goal.decreases-loop-k
-decreases-loop-k l = 8 - l.k
+invariant-loop-k l = pairs l.s ≡ filled l.k (pairs_at l.row l.at) (pairs l.initial.s)
