@@ -34,14 +34,6 @@ module _ {here row : List ℤ} (held : Held here row) where
   pub step_fits : (v : ℕ) → v < 8 → Inside 10000000 (shares_at row v)
   step_fits v h = inside_more 10000 10000000 (omega arith) (shares_at row v) (held.shares v h)
 
-  -- ---- keys
-  -- within the size that `state::key` asks for
-  pub step_small : (v : ℕ) → v < 8 → Inside 200000 (shares_at row v)
-  step_small v h = inside_more 10000 200000 (omega arith) (shares_at row v) (held.shares v h)
-
-pub node_small_lem : {here : List ℤ} {nodes : ℕ} → Totalled here nodes → (j : ℕ) → j < nodes → Inside 200000 (pairs_at here (j * 17))
-node_small_lem {here} small j h = inside_more 190000 200000 (omega arith) (pairs_at here (j * 17)) (small.totals j h)
-
 -- the keys of the first nodes and steps
 pub record KeysTo (here row : List ℤ) (nodes steps : ℕ) (keys : List ℤ) : Type 0 where
   pub long : length keys ≡ 24

@@ -4,6 +4,6 @@ pub mod Children
 -- lists of classes
 pub mod Lists
 -- buckets
-pub mod Chains
+pub mod Buckets
 -- turns of the loops
 pub mod Turns

@@ -1,5 +1,6 @@
 -- Which states do the children of a layer's nodes have, and which of them are one class?
-use Rattle.std.specs.Prelude.{◌≡◌, List, [], ◌∷◌, map, true, false, ◌&&◌, cond, ℕ, zero, suc, ◌+◌, ◌*◌, ◌/◌, ◌%◌, ◌<◌, ◌≤◌, eqb, length, get_or, ℤ, pos}
+use Rattle.std.specs.Prelude as rust
+use Rattle.std.specs.Prelude.{Some, None, MatchOption, ◌≡◌, List, [], ◌∷◌, map, true, false, ◌&&◌, cond, ℕ, zero, suc, ◌+◌, ◌*◌, ◌/◌, ◌%◌, ◌<◌, ◌≤◌, eqb, length, get_or, ℤ, pos}
 use Rattle.std.proofs.Math.Option.{Option, none, some}
 use Rattle.laws.specs.Lists.{place, from}
 use Rattle.laws.specs.Z.{Within}
@@ -9,6 +10,7 @@ use Rattle.meaning.specs.Problem.{step_count}
 use Rattle.meaning.specs.Diagram.{State, eq_state, Node, has, distinct}
 use Rattle.state.specs.Pairs.{Inside, added, fits_in, pairs_at, shares_at, key_of, bucket_of}
 use Rattle.lent.proofs.FirstOrder.{AllDiffer}
+use Rattle.classes.specs.declared.Chains.{Chains}
 
 -- ---- children
 -- a layer's row has 17 lanes for each of 16 nodes, a slot's row 8 shares for each of 8 steps and their prices; shares within 10,000
@@ -47,6 +49,9 @@ pub record Keyed (here row : List ℤ) (nodes : ℕ) (keys : List ℤ) : Type 0 
 abbrev pub classes_in : List ℤ → List ℤ → List ℕ → ℕ → List Node
 classes_in here row firsts count = map (λ k. (state_at here row (get_or firsts k 0), pos 0)) (from 0 count)
 
+abbrev pub classes_of : List ℤ → List ℤ → Chains → List Node
+classes_of here row chains = classes_in here row chains.firsts chains.count
+
 abbrev pub no_node : Node
 no_node = ([], pos 0)
 
@@ -54,6 +59,11 @@ no_node = ([], pos 0)
 abbrev pub class_byte : List Node → Option Node → ℕ
 class_byte ts none = 0
 class_byte ts (some c) = suc (place (has c.0) ts)
+
+-- as code says it
+abbrev pub byte_of : rust.Option ℕ → ℕ
+byte_of None = 0
+byte_of (Some k) = k + 1
 
 -- the newest of the first k nodes in a bucket, plus 1; 0 for none
 abbrev pub latest : List Node → ℕ → ℕ → ℕ
@@ -71,19 +81,13 @@ pub record Linked (ts : List Node) (older : List ℕ) : Type 0 where
   pub long : length older ≡ 128
   pub link : (k : ℕ) → k < length ts → get_or older k 0 ≡ latest ts (bucket_of (get_or ts k no_node).0) k
 
--- a state's bucket begins at head
-pub record Chained (here row : List ℤ) (firsts older : List ℕ) (count : ℕ) (t : State) (head : ℕ) : Type 0 where
-  pub laid : Laid firsts count
-  pub linked : Linked (classes_in here row firsts count) older
-  pub begins : head ≡ latest (classes_in here row firsts count) (bucket_of t) count
-
 -- the classes so far: all different, linked, with a head for each bucket
-pub record Seen (here row : List ℤ) (firsts older heads : List ℕ) (count : ℕ) : Type 0 where
-  pub laid : Laid firsts count
-  pub linked : Linked (classes_in here row firsts count) older
-  pub long : length heads ≡ 256
-  pub each : (s : ℕ) → s < 256 → get_or heads s 0 ≡ latest (classes_in here row firsts count) s count
-  pub differ : AllDiffer (classes_in here row firsts count)
+pub record Seen (here row : List ℤ) (chains : Chains) : Type 0 where
+  pub laid : Laid chains.firsts chains.count
+  pub linked : Linked (classes_of here row chains) chains.older
+  pub long : length chains.heads ≡ 256
+  pub each : (s : ℕ) → s < 256 → get_or chains.heads s 0 ≡ latest (classes_of here row chains) s chains.count
+  pub differ : AllDiffer (classes_of here row chains)
 
 -- child f has the state t, and there is room for one class more
 pub record Fresh (here row : List ℤ) (f count : ℕ) (t : State) : Type 0 where
@@ -91,20 +95,17 @@ pub record Fresh (here row : List ℤ) (f count : ℕ) (t : State) : Type 0 wher
   pub room : count ≤ f
   pub is : t ≡ state_at here row f
 
--- r is 0 and no node has the state, or node r − 1 has it
-pub record Found (t : State) (ts : List Node) (r : ℕ) : Type 0 where
-  pub no : r ≡ 0 → Each (λ n. eq_state t n.0 ≡ false) ts
-  pub yes : (k : ℕ) → r ≡ suc k → (k < length ts) × (eq_state t (get_or ts k no_node).0 ≡ true)
+-- no node has the state, or node k has it
+abbrev pub Found : State → List Node → rust.Option ℕ → Type 0
+Found t ts o = MatchOption o (Each (λ n. eq_state t n.0 ≡ false) ts) (λ k. (k < length ts) × (eq_state t (get_or ts k no_node).0 ≡ true))
 
 -- the classes after one arrival, and the arrival's class
-pub record Classed (here row : List ℤ) (firsts firsts' older heads : List ℕ) (count : ℕ) (o : Option Node) (r : ℕ) : Type 0 where
-  pub after : ℕ
-  pub is : classes_in here row firsts' after ≡ distinct (classes_in here row firsts count) (o ∷ [])
-  pub seen : Seen here row firsts' older heads after
-  pub grows : after ≤ count + 1
-  pub byte : r ≡ class_byte (classes_in here row firsts' after) o
-  pub new : count < r → after ≡ r
-  pub old : r ≤ count → after ≡ count
+pub record Classed (here row : List ℤ) (before after : Chains) (o : Option Node) (class : rust.Option ℕ) : Type 0 where
+  pub is : classes_of here row after ≡ distinct (classes_of here row before) (o ∷ [])
+  pub seen : Seen here row after
+  pub grows : after.count ≤ before.count + 1
+  pub low : byte_of class ≤ after.count
+  pub byte : byte_of class ≡ class_byte (classes_of here row after) o
 
-abbrev pub Arrived : List ℤ → List ℤ → List ℕ → List ℕ → List ℕ → List ℕ → ℕ → State → ℕ → Type 0
-Arrived here row firsts firsts' older heads count t r = Classed here row firsts firsts' older heads count (some (t, pos 0)) r
+abbrev pub Arrived : List ℤ → List ℤ → Chains → Chains → State → ℕ → Type 0
+Arrived here row before after t k = Classed here row before after (some (t, pos 0)) (Some k)

@@ -6,25 +6,12 @@ use native.Mathlib.Omega.{arith}
 use lib.ListN.{length, get_or, set, replicate, length-map, length-append, get_or-append}
 use lib.Seq.{get_or-set_other, get_or-append_seam, get_or-append-add, set-get_or}
 use lib.IntN.{ℤ, pos, neg_ℤ, ◌-ℤ◌}
-use mir.Syntax.{w32}
-use mir.Val.{SFits}
-use Rattle.laws.specs.Z.{Within, zarith, dif, neg, widen, fits32, back, back_is}
+use Rattle.laws.specs.Z.{Within, zarith, dif, neg, back, back_is}
 use Rattle.laws.proofs.Lists.{get_or_map}
 use Rattle.lanes.proofs.Laws.{Halved, halved_more, halved_end, turned_within}
-use Rattle.slot.specs.Rows.{lanes_of}
-use Rattle.slot.proofs.Laws.{lanes_long}
+use Rattle.slot.specs.Rows.{lane_of, lanes_of}
+use Rattle.slot.proofs.Laws.{lanes_long, lanes_at}
 use Rattle.reach.specs.Spans.{step_lanes}
-
--- ---- a sign turned
-module _ {z : ℤ} (w : Within 7001 z) where
-  turned : pos 0 -ℤ back z ≡ neg_ℤ z
-  turned = rw (back_is w tt) (omega (zarith, dif (pos 0) z, neg z))
-
-  pub turned_fits : SFits w32 (pos 0 -ℤ back z)
-  turned_fits = rw turned (fits32 (widen tt (turned_within w)))
-
-  pub turned_is : back (pos 0 -ℤ back z) ≡ neg_ℤ z
-  turned_is = rw turned (back_is (turned_within w) tt)
 
 -- ---- the first r shares are laid, and as many with their sign turned; the lane of costs is as it was, zero
 pub record Stepped (coefs : List ℤ) (values : List ℕ) (v : ℕ) (x : List ℤ) (r : ℕ) : Type 0 where
@@ -67,11 +54,16 @@ module _ (coefs : List ℤ) (values : List ℕ) (v : ℕ) (wide : length coefs �
   }
 
   module _ {x : List ℤ} {r : ℕ} (l : Stepped coefs values v x r) where
-    pub stepped_more : {a b : ℤ} → r < 8 → a ≡ get_or shares r (pos 0) → b ≡ neg_ℤ (get_or shares r (pos 0)) → Stepped coefs values v (set (set x r a) (8 + r) b) (r + 1)
-    stepped_more {a} {b} h e f = record {
-      half = halved_more l.half h (e ∙ low r h) (f ∙ high r h);
-      cost = get_or-set_other (set x r a) (8 + r) 16 b (pos 0) (λ o. omega arith) ∙ get_or-set_other x r 16 a (pos 0) (λ o. omega arith) ∙ l.cost;
-    }
+    pub stepped_more : {c z : ℤ} → r < 8 → c ≡ get_or coefs r (pos 0) → (z ≡ lane_of c (get_or values r 0) v) × Within 7001 z → Stepped coefs values v (set (set x r (back z)) (8 + r) (back (pos 0 -ℤ back z))) (r + 1)
+    stepped_more {c} {z} h e f =
+        let is : z ≡ get_or shares r (pos 0) = f.0 ∙ ap (λ c. lane_of c (get_or values r 0) v) e ∙ sym (lanes_at coefs values v r (omega arith) (wide ∙ sym same)) in
+        let here : back z ≡ z = back_is f.1 tt in
+        let minus : pos 0 -ℤ back z ≡ neg_ℤ z = rw here (omega (zarith, dif (pos 0) z, neg z)) in
+        let turned : back (pos 0 -ℤ back z) ≡ neg_ℤ z = rw minus (back_is (turned_within f.1) tt) in
+        record {
+          half = halved_more l.half h (here ∙ is ∙ low r h) (turned ∙ ap neg_ℤ is ∙ high r h);
+          cost = get_or-set_other (set x r (back z)) (8 + r) 16 (back (pos 0 -ℤ back z)) (pos 0) (λ o. omega arith) ∙ get_or-set_other x r 16 (back z) (pos 0) (λ o. omega arith) ∙ l.cost;
+        }
 
     pub stepped_all : 8 ≤ r → x ≡ step_lanes coefs values v
     stepped_all h =

@@ -6,10 +6,10 @@ use native.Mathlib.Nat.{zero-add}
 use native.Mathlib.Numerals.{add-one}
 use native.Mathlib.Omega.{arith}
 use lib.ListN.{length, get_or, set, take, drop, length-append, length-drop, length-set, drop_of_length-le}
-use lib.Seq.{paste, paste-zero, paste-suc, length-paste, take-suc, take_all, take_at, take-length, length-take-le, get_or-take, get_or-drop, set-append_left, take-set-lt, drop-set-lt}
+use lib.Seq.{paste, paste-zero, paste-suc, length-paste, take-suc, take_all, take_at, take-length, length-take-le, get_or-take, get_or-drop, set-append_left, take-set-lt, drop-set-lt, drop-drop}
 use Rattle.laws.specs.Lists.{gather, from, padded}
 use Rattle.laws.proofs.Lists.{length_from, from_more}
-use Rattle.laws.proofs.Filled.{padded_more, padded_full, length_rows, gather_more, take_within}
+use Rattle.laws.proofs.Filled.{padded_more, padded_full, length_rows, gather_more, take-padded, take_within}
 
 -- ---- what is pasted leaves what stands before it
 module _ {A : Type 0} (d : List A) (at : ℕ) (s : List A) (n : ℕ) where
@@ -86,24 +86,33 @@ padded_take (suc k) zero z l h = absurd (omega arith)
 padded_take (suc k) (suc n) z [] h = ap (λ r. z ∷ r) (padded_take k n z [] (omega arith))
 padded_take (suc k) (suc n) z (x ∷ l) h = ap (λ r. x ∷ r) (padded_take k n z l (omega arith))
 
--- ---- a table of rows of eight: i rows are laid, and r entries of the next
+-- a front put before what a shorter one was filled up with
+pub front_put : {A : Type 0} (d : A) (z : ℕ) (l y : List A) → length l ≤ length y → length y ≤ z → y ++ drop (length y) (padded z d l) ≡ padded z d y
+front_put d z [] [] h r = refl
+front_put d z (x ∷ l) [] h r = absurd (omega arith)
+front_put d zero l (y ∷ ys) h r = absurd (omega arith)
+front_put {A} d (suc z) [] (y ∷ ys) h r = ap (λ (m : List A). y ∷ m) (front_put d z [] ys (omega arith) (omega arith))
+front_put {A} d (suc z) (x ∷ l) (y ∷ ys) h r = ap (λ (m : List A). y ∷ m) (front_put d z l ys (omega arith) (omega arith))
+
+-- ---- a part of k elements, written as a whole
+pub part_written : {A : Type 0} (at k : ℕ) (d s x : List A) → x ≡ s → length s ≡ k → take at d ++ (x ++ drop k (drop at d)) ≡ paste d at s k
+part_written at k d s x is e =
+    (λ i. take at d ++ (is i ++ drop-drop k at d i))
+    ∙ ap (λ l. take at d ++ (l ++ drop (at + k) d)) (sym (take_all k s (omega arith)))
+    ∙ sym (append_assoc (take at d) (take k s) (drop (at + k) d))
+
+-- ---- a table of rows of eight: the next row is written behind i rows
 module _ {A : Type 0} (n : ℕ) (z : A) (f : ℕ → List A) (wide : (i : ℕ) → length (f i) ≡ 8) (i : ℕ) where
-  pub row_none : padded n z (gather f (from 0 i)) ≡ padded n z (gather f (from 0 i) ++ take 0 (f i))
-  row_none = ap (padded n z) (sym (append-nil (gather f (from 0 i))))
-
-  pub row_more : (r : ℕ) {x : A} → i * 8 + 8 ≤ n → r < 8 → x ≡ get_or (f i) r z
-      → set (padded n z (gather f (from 0 i) ++ take r (f i))) (i * 8 + r) x ≡ padded n z (gather f (from 0 i) ++ take (r + 1) (f i))
-  row_more r {x} room h e =
+  pub row_put : (k : ℕ) (x d : List A) → k ≡ 8 → i * 8 + 8 ≤ n → x ≡ f i → d ≡ padded n z (gather f (from 0 i))
+      → take (i * 8) d ++ (x ++ drop k (drop (i * 8) d)) ≡ padded n z (gather f (from 0 (i + 1)))
+  row_put k x d e room is rows =
       let so = gather f (from 0 i) in
-      let few : length (take r (f i)) ≡ r = length-take-le r (f i) (omega (arith, wide i)) in
-      let long : length (so ++ take r (f i)) ≡ i * 8 + r = length-append so (take r (f i)) ∙ omega (arith, few, length_rows f 8 wide (from 0 i), ap (λ k. k * 8) (length_from 0 i)) in
-      let more : take r (f i) ++ x ∷ [] ≡ take (r + 1) (f i) = rw (e, add-one) (sym (take-suc (f i) r z (omega (arith, wide i)))) in
-      ap (λ j. set (padded n z (so ++ take r (f i))) j x) (sym long)
-      ∙ padded_more z n (so ++ take r (f i)) x (omega arith)
-      ∙ ap (padded n z) (append_assoc so (take r (f i)) (x ∷ []) ∙ ap (λ l. so ++ l) more)
-
-  pub row_all : (r : ℕ) → 8 ≤ r → padded n z (gather f (from 0 i) ++ take r (f i)) ≡ padded n z (gather f (from 0 (i + 1)))
-  row_all r h =
-      let so = gather f (from 0 i) in
+      let long : length so ≡ i * 8 = length_rows f 8 wide (from 0 i) ∙ ap (λ k. k * 8) (length_from 0 i) in
+      let both : length (so ++ f i) ≡ i * 8 + k = length-append so (f i) ∙ omega (arith, long, wide i) in
+      let front : take (i * 8) d ≡ so = (λ j. take (sym long j) (rows j)) ∙ take-padded z n so (omega (arith, long)) in
+      let behind : drop k (drop (i * 8) d) ≡ drop (length (so ++ f i)) (padded n z so) = drop-drop k (i * 8) d ∙ (λ j. drop (sym both j) (rows j)) in
       let next : gather f (from 0 (i + 1)) ≡ so ++ f i = ap (gather f) (from_more 0 i ∙ ap (λ j. from 0 i ++ j ∷ []) (zero-add i)) ∙ gather_more f (from 0 i) i in
-      ap (padded n z) (ap (λ l. so ++ l) (take_all r (f i) (omega (arith, wide i))) ∙ sym next)
+      (λ j. front j ++ (is j ++ behind j))
+      ∙ sym (append_assoc so (f i) (drop (length (so ++ f i)) (padded n z so)))
+      ∙ front_put z n so (so ++ f i) (omega (arith, length-append so (f i))) (omega (arith, both))
+      ∙ ap (padded n z) (sym next)

@@ -1,11 +1,10 @@
 -- How does the row of a slot fill up, how do the parts, and what is a share as an i32?
 use mathlib.Core.Path.{◌≡◌, refl, sym, ap, ◌∙◌}
 use mathlib.Core.List.{List, [], ◌∷◌, ◌++◌, map, map-append, append_assoc}
-use Prim.Native.Nat.{ℕ, zero, suc, ◌+◌, ◌*◌, ◌/◌, ◌%◌, ◌^◌, ◌-◌, ◌<◌}
+use Prim.Native.Nat.{ℕ, zero, suc, ◌+◌, ◌*◌, ◌-◌, ◌<◌}
 use native.Mathlib.Nat.{zero-add}
 use native.Mathlib.Numerals.{add-one}
 use native.Mathlib.Omega.{arith}
-use borrow.Author.Tests.{eq-eqb, ne_eqb}
 use lib.ListN.{length, get_or, set, take, drop, length-drop, length-map, length-append, length-set}
 use lib.Seq.{take_at, drop-append-add, take-set-le, take-suc-set, drop-set-add, drop-drop, take_all, take-add, length-take-le}
 use lib.IntN.{ℤ, pos, ◌+ℤ◌, ◌*ℤ◌}
@@ -17,18 +16,9 @@ use Rattle.laws.specs.Lists.{gather, from, padded}
 use Rattle.laws.proofs.Lists.{length_from, from_more}
 use Rattle.laws.proofs.Filled.{padded_more, length-padded, gather_more}
 use Rattle.problem.proofs.Shares.{times_is}
+use Rattle.problem.specs.declared.Terms.{Terms}
+use Rattle.problem.specs.declared.Terms.TheVariants.{Neither}
 use Rattle.slot.specs.Rows.{coef_part, value_part, coef_parts, value_parts, lane_of, lanes_of}
-
--- ---- what an among rule counts in a slot
-module _ (kind values slots i : ℕ) where
-  pub value_named : kind ≡ 1 → slots / 2 ^ i % 2 ≡ 1 → values ≡ value_part kind values slots i
-  value_named k e = rw (eq-eqb kind 1 k, eq-eqb (slots / 2 ^ i % 2) 1 e) refl
-
-  pub value_unnamed : kind ≡ 1 → (slots / 2 ^ i % 2 ≡ 1 → ⊥) → 0 ≡ value_part kind values slots i
-  value_unnamed k e = rw (eq-eqb kind 1 k, ne_eqb (slots / 2 ^ i % 2) 1 e) refl
-
-  pub value_none : (kind ≡ 1 → ⊥) → 0 ≡ value_part kind values slots i
-  value_none k = rw (ne_eqb kind 1 k) refl
 
 -- ---- a lane: a coefficient within 1,000 times a step below 8, and a bit
 module _ {x : ℤ} {v b : ℕ} (w : Within 1000 x) (h : v < 8) (l : b < 2) where
@@ -132,8 +122,8 @@ module _ (shares : ℕ → List ℤ) (price : ℕ → ℤ) where
   priced_all row f = sym (take_all 72 row (omega (arith, f.long))) ∙ take-add 64 8 row ∙ (λ j. f.low j ++ f.high j)
 
 -- eight parts
-pub coefs_long : (m i : ℕ) (kinds : List ℕ) (coefs : List ℤ) → length (coef_parts m i kinds coefs) ≡ 8
-coefs_long m i kinds coefs = length-padded (pos 0) 8 (map (λ r. coef_part (get_or kinds r 0) (get_or coefs (r * 24 + i) (pos 0))) (from 0 m))
+pub coefs_long : (m i : ℕ) (terms : List Terms) → length (coef_parts m i terms) ≡ 8
+coefs_long m i terms = length-padded (pos 0) 8 (map (λ r. coef_part i (get_or terms r Neither)) (from 0 m))
 
-pub values_long : (m i : ℕ) (kinds values slots : List ℕ) → length (value_parts m i kinds values slots) ≡ 8
-values_long m i kinds values slots = length-padded {A = ℕ} 0 8 (map (λ r. value_part (get_or kinds r 0) (get_or values r 0) (get_or slots r 0) i) (from 0 m))
+pub values_long : (m i : ℕ) (terms : List Terms) → length (value_parts m i terms) ≡ 8
+values_long m i terms = length-padded {A = ℕ} 0 8 (map (λ r. value_part i (get_or terms r Neither)) (from 0 m))

@@ -1,24 +1,30 @@
 -- Which lanes does an arc of each step add?
-use Rattle.std.specs.Prelude.{List, [], ◌∷◌, ◌++◌, map, ◌&&◌, cond, ℕ, ◌+◌, ◌*◌, ◌/◌, ◌%◌, ◌^◌, eqb, get_or, ℤ, pos, ◌+ℤ◌, ◌*ℤ◌}
+use Rattle.std.specs.Prelude.{List, [], ◌∷◌, ◌++◌, map, cond, ℕ, ◌/◌, ◌%◌, ◌^◌, get_or, ℤ, pos, ◌+ℤ◌, ◌*ℤ◌}
 use Rattle.laws.specs.Lists.{gather, from, padded}
 use Rattle.meaning.specs.Plan.{bit}
-use Rattle.meaning.specs.Problem.{most_slots, most_rules, step_count}
+use Rattle.meaning.specs.Problem.{most_rules, step_count}
+use Rattle.problem.specs.declared.Terms.{Terms}
+use Rattle.problem.specs.declared.Terms.TheVariants.{Among, Sum, Neither}
 
--- only a sum rule has a coefficient
-abbrev pub coef_part : ℕ → ℤ → ℤ
-coef_part kind coef = cond (eqb kind 2) coef (pos 0)
+-- only a sum rule has a coefficient of the slot
+abbrev pub coef_part : ℕ → Terms → ℤ
+coef_part i (Among s t) = pos 0
+coef_part i (Sum c) = get_or c i (pos 0)
+coef_part i Neither = pos 0
 
 -- only an among rule counts values, in the slots that it names
-abbrev pub value_part : ℕ → ℕ → ℕ → ℕ → ℕ
-value_part kind values slots i = cond (eqb kind 1 && bit slots i) values 0
+abbrev pub value_part : ℕ → Terms → ℕ
+value_part i (Among s t) = cond (bit t i) s 0
+value_part i (Sum c) = 0
+value_part i Neither = 0
 
--- of each of m rules, zero past them; a rule has a place for each slot in the table of coefficients
-abbrev pub coef_parts : ℕ → ℕ → List ℕ → List ℤ → List ℤ
-coef_parts m i kinds coefs = padded most_rules (pos 0) (map (λ r. coef_part (get_or kinds r 0) (get_or coefs (r * most_slots + i) (pos 0))) (from 0 m))
+-- of each of m rules, zero past them
+abbrev pub coef_parts : ℕ → ℕ → List Terms → List ℤ
+coef_parts m i terms = padded most_rules (pos 0) (map (λ r. coef_part i (get_or terms r Neither)) (from 0 m))
 
 -- the same of the values
-abbrev pub value_parts : ℕ → ℕ → List ℕ → List ℕ → List ℕ → List ℕ
-value_parts m i kinds values slots = padded most_rules 0 (map (λ r. value_part (get_or kinds r 0) (get_or values r 0) (get_or slots r 0) i) (from 0 m))
+abbrev pub value_parts : ℕ → ℕ → List Terms → List ℕ
+value_parts m i terms = padded most_rules 0 (map (λ r. value_part i (get_or terms r Neither)) (from 0 m))
 
 -- a share by its parts: "coefficient times v", or 1 for a value in S
 abbrev pub lane_of : ℤ → ℕ → ℕ → ℤ

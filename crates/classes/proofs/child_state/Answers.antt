@@ -11,6 +11,3 @@ child-requires c =
     let f = c.args.f in
     let low : f % 8 < 8 = mod-lt f (omega arith) in
     (low, steps_room held, rw c.taken.ensures (node_fits held (f / 8)), step_fits held (f % 8) low)
-
-pub returns : goal.returns
-returns c = rw (← c.taken.ensures) c.child.ensures

@@ -1,29 +1,24 @@
-use mathlib.Core.Path.{◌≡◌, refl, sym, ap, ◌∙◌}
-use mathlib.Core.List.{List}
+use mathlib.Core.Path.{◌≡◌, sym, ap, ◌∙◌}
+use mathlib.Core.List.{List, map}
 use Prim.Native.Nat.{ℕ, ◌+◌, ◌*◌, ◌≤◌}
 use native.Mathlib.Numerals.{add-one}
 use native.Mathlib.Omega.{arith}
-use lib.ListN.{length, get_or, set, take, drop}
+use lib.ListN.{length, get_or, set, take, drop, length-map, get_or-map}
 use lib.Seq.{paste, paste-zero, paste-suc, length-paste}
 use lib.IntN.{ℤ, pos}
-use Rattle.laws.specs.Z.{told}
+use borrow.Rule.Slice.PartMut.{put_mid}
+use Rattle.laws.specs.Z.{back, told}
 use Rattle.laws.specs.Lists.{gather, from}
-use Rattle.laws.proofs.Filled.{padded_none, length-padded, part_pasted}
+use Rattle.laws.proofs.Filled.{length-padded, part_pasted}
 use Rattle.problem.specs.declared.Problem.{Problem}
+use Rattle.problem.specs.Held.{no_bounds}
 use Rattle.problem.proofs.Arrays.{long}
 use Rattle.slot.specs.Rows.{coef_parts, value_parts}
 use Rattle.slot.specs.Tables.{weights_in, leasts_in, mosts_in, sets_in, coef_table, value_table}
 use Rattle.slot.proofs.Laws.{coefs_long, values_long}
-use Rattle.slot.proofs.Laid.{copied_start, copied_long, copied_more, copied_before, copied_end, paste_after, padded_take, row_none, row_more, row_all}
+use Rattle.slot.proofs.Laid.{copied_start, copied_more, copied_before, paste_after, padded_take, part_written, row_put}
 use Rattle.slot.proofs.put_parts.Goals as goal
-use Rattle.slot.proofs.put_parts.Goals.{After-loop-i, After-loop-k, After-loop-r-2, Start}
-
-pub loop-i-init : goal.loop-i-init
-loop-i-init c = (omega arith, c.requires.2 ∙ sym (padded_none (pos 0) 232), c.requires.3 ∙ sym (padded_none {A = ℕ} 0 216))
-
-pub parts_of-x-requires : goal.parts_of-x-requires
-parts_of-x-requires c =
-    (c.requires.1, omega (arith, c.loop-i-test.true, c.requires.0))
+use Rattle.slot.proofs.put_parts.Goals.{After-copy_from_slice-3, After-loop-i, Start}
 
 -- the problem's rows and lists
 module _ (s : Start) where
@@ -31,16 +26,16 @@ module _ (s : Start) where
   p = s.args.p
 
   abbrev units : ℕ → List ℤ
-  units k = coef_parts p.m k p.kinds p.coefs
+  units k = coef_parts p.rules k p.terms
 
   units_wide : (k : ℕ) → length (units k) ≡ 8
-  units_wide k = coefs_long p.m k p.kinds p.coefs
+  units_wide k = coefs_long p.rules k p.terms
 
   abbrev counted : ℕ → List ℕ
-  counted k = value_parts p.m k p.kinds p.values p.slots
+  counted k = value_parts p.rules k p.terms
 
   counted_wide : (k : ℕ) → length (counted k) ≡ 8
-  counted_wide k = values_long p.m k p.kinds p.values p.slots
+  counted_wide k = values_long p.rules k p.terms
 
   weights_long : length p.weights ≡ 24
   weights_long = search long
@@ -48,90 +43,77 @@ module _ (s : Start) where
   sets_long : length p.sets ≡ 24
   sets_long = search long
 
-  lb_long : length p.lb ≡ 8
-  lb_long = search long
+  bounds_long : length p.bounds ≡ 8
+  bounds_long = search long
 
-  ub_long : length p.ub ≡ 8
-  ub_long = search long
+  abbrev lbs : List ℤ
+  lbs = map (λ b. b.lb) p.bounds
 
-pub loop-r-init : goal.loop-r-init
-loop-r-init c =
-    let s = (goal.at.loop-r-init c).Start in
-    let l = c.loop-i in (
-      omega arith,
-      l.invariant.1 ∙ row_none 232 (pos 0) (units s) (units_wide s) l.i,
-      l.invariant.2 ∙ row_none 216 0 (counted s) (counted_wide s) l.i,
-    )
+  abbrev ubs : List ℤ
+  ubs = map (λ b. b.ub) p.bounds
 
-pub loop-r-preserved : goal.loop-r-preserved
-loop-r-preserved c =
-    let s = (goal.at.loop-r-preserved c).Start in
-    let o = c.loop-i in
-    let l = c.loop-r in
-    let p = c.parts_of-x in
-    let room : o.i * 8 + 8 ≤ 192 = omega (arith, c.loop-i-test.true, c.requires.0) in
-    let coef = told (get_or p.result.coefs l.r (pos 0)) c.coef-1.given ∙ ap (λ x. get_or x l.r (pos 0)) {y = units s o.i} p.ensures.coefs in
-    let value = ap (λ x. get_or x l.r 0) {y = counted s o.i} p.ensures.values in (
-      omega arith,
-      rw l.invariant.1 (row_more 232 (pos 0) (units s) (units_wide s) o.i l.r (omega arith) c.loop-r-test.true coef),
-      rw l.invariant.2 (row_more 216 0 (counted s) (counted_wide s) o.i l.r (omega arith) c.loop-r-test.true value),
-    )
+  lbs_long : length lbs ≡ 8
+  lbs_long = length-map p.bounds (λ b. b.lb) ∙ bounds_long
+
+  ubs_long : length ubs ≡ 8
+  ubs_long = length-map p.bounds (λ b. b.ub) ∙ bounds_long
 
 pub loop-i-preserved : goal.loop-i-preserved
 loop-i-preserved c =
     let s = (goal.at.loop-i-preserved c).Start in
-    let o = c.loop-i in
-    let l = c.loop-r in (
-      omega (arith, c.loop-i-test.true),
-      l.invariant.1 ∙ row_all 232 (pos 0) (units s) (units_wide s) o.i l.r c.loop-r-test.false,
-      l.invariant.2 ∙ row_all 216 0 (counted s) (counted_wide s) o.i l.r c.loop-r-test.false,
-    )
+    let l = c.loop-i in
+    let parts = c.parts_of-parts in
+    let room : l.i * 8 + 8 ≤ 192 = omega (arith, c.loop-i-test.true, c.requires.0) in record {
+      coefs = row_put 232 (pos 0) (units s) (units_wide s) l.i _ _ l.coefs (omega arith) (omega arith) (c.copy_from_slice.ensures.after ∙ parts.ensures.coefs) l.invariant.coefs;
+      values = row_put 216 0 (counted s) (counted_wide s) l.i _ _ l.values (omega arith) (omega arith) (c.copy_from_slice-in-loop-i.ensures.after ∙ parts.ensures.values) l.invariant.values;
+    }
 
 -- behind the rows
 module _ (c : After-loop-i) where
+  abbrev start : Start
+  start = (goal.at.After-loop-i c).Start
+
   coefs_room : length c.loop-i.coefs ≡ 232
-  coefs_room = ap length c.loop-i.invariant.1 ∙ length-padded (pos 0) 232 (gather (units (goal.at.After-loop-i c).Start) (from 0 c.loop-i.i))
+  coefs_room = ap length c.loop-i.invariant.coefs ∙ length-padded (pos 0) 232 (gather (units start) (from 0 c.loop-i.i))
 
   values_room : length c.loop-i.values ≡ 216
-  values_room = ap length c.loop-i.invariant.2 ∙ length-padded {A = ℕ} 0 216 (gather (counted (goal.at.After-loop-i c).Start) (from 0 c.loop-i.i))
+  values_room = ap length c.loop-i.invariant.values ∙ length-padded {A = ℕ} 0 216 (gather (counted start) (from 0 c.loop-i.i))
 
-pub loop-k-init : goal.loop-k-init
-loop-k-init c =
-    let s = (goal.at.loop-k-init c).Start in
-    (copied_start (omega (arith, coefs_room c, weights_long s)), copied_start (omega (arith, values_room c, sets_long s)))
+-- the weights are laid, and the sets
+module _ (c : After-copy_from_slice-3) where
+  abbrev rows : After-loop-i
+  rows = (goal.at.After-copy_from_slice-3 c).After-loop-i
 
-pub loop-k-preserved : goal.loop-k-preserved
-loop-k-preserved c =
-    let s = (goal.at.loop-k-preserved c).Start in
-    let l = c.loop-k in
-    let below = c.loop-k-test.true in (
-      copied_more l.invariant.0 (pos 0) (omega (arith, weights_long s)) (told (get_or (p s).weights l.k (pos 0)) c.weight-1.given),
-      copied_more l.invariant.1 0 (omega (arith, sets_long s)) refl,
-    )
+  abbrev own : Problem
+  own = c.args.p
 
--- behind the weights
-bounds_room : (c : After-loop-k) → length c.loop-k.coefs ≡ 232
-bounds_room c = copied_long c.loop-k.invariant.0 ∙ coefs_room (goal.at.After-loop-k c).After-loop-i
+  weighed_is : put_mid 192 24 c.loop-i.coefs c.copy_from_slice-2.new.self ≡ paste c.loop-i.coefs 192 own.weights 24
+  weighed_is = part_written 192 24 c.loop-i.coefs own.weights _ c.copy_from_slice-2.ensures.after (weights_long (start rows))
 
-pub loop-r-2-init : goal.loop-r-2-init
-loop-r-2-init c =
-    let s = (goal.at.loop-r-2-init c).Start in
-    let so = c.loop-k.coefs in
-    rw (← paste-zero so 216 (p s).lb) (copied_start (omega (arith, bounds_room c, ub_long s)))
+  allowed_is : put_mid 192 24 c.loop-i.values c.copy_from_slice-3.new.self ≡ paste c.loop-i.values 192 own.sets 24
+  allowed_is = part_written 192 24 c.loop-i.values own.sets _ c.copy_from_slice-3.ensures.after (sets_long (start rows))
 
-pub loop-r-2-preserved : goal.loop-r-2-preserved
-loop-r-2-preserved c =
-    let s = (goal.at.loop-r-2-preserved c).Start in
-    let l = c.loop-r-2 in
-    let so = c.loop-k.coefs in
-    let lb = (p s).lb in
-    let ub = (p s).ub in
+  weighed_room : length (put_mid 192 24 c.loop-i.coefs c.copy_from_slice-2.new.self) ≡ 232
+  weighed_room = ap length weighed_is ∙ length-paste c.loop-i.coefs 192 own.weights 24 (omega (arith, coefs_room rows)) (omega (arith, weights_long (start rows))) ∙ coefs_room rows
+
+pub loop-r-init : goal.loop-r-init
+loop-r-init c =
+    let s = (goal.at.loop-r-init c).Start in
+    let so = put_mid 192 24 c.loop-i.coefs c.copy_from_slice-2.new.self in
+    rw (← paste-zero so 216 (lbs s)) (copied_start (omega (arith, weighed_room c, ubs_long s)))
+
+pub loop-r-preserved : goal.loop-r-preserved
+loop-r-preserved c =
+    let s = (goal.at.loop-r-preserved c).Start in
+    let l = c.loop-r in
+    let so = put_mid 192 24 c.loop-i.coefs c.copy_from_slice-2.new.self in
     let r = l.r in
-    let below = c.loop-r-2-test.true in
-    let least = told (get_or lb r (pos 0)) c.least-1.given in
-    let most = told (get_or ub r (pos 0)) c.most-1.given in
-    let next : set (paste so 216 lb r) (216 + r) (get_or lb r (pos 0)) ≡ paste so 216 lb (r + 1) = rw add-one (paste-suc so 216 lb r (pos 0) (omega (arith, bounds_room (goal.at.loop-r-2-preserved c).After-loop-k)) (omega (arith, lb_long s))) in
-    rw least (copied_more (rw next at (copied_before l.invariant (216 + r) (get_or lb r (pos 0)) (omega arith))) (pos 0) (omega (arith, ub_long s)) most)
+    let below = c.loop-r-test.true in
+    let bounds = get_or (p s).bounds r no_bounds in
+    let least : back bounds.lb ≡ get_or (lbs s) r (pos 0) = told bounds.lb c.coefs-1.given ∙ sym (get_or-map (λ b. b.lb) (p s).bounds r no_bounds) in
+    let most : back bounds.ub ≡ get_or (ubs s) r (pos 0) = told bounds.ub c.coefs-in-loop-r-1.given ∙ sym (get_or-map (λ b. b.ub) (p s).bounds r no_bounds) in
+    let next : set (paste so 216 (lbs s) r) (216 + r) (get_or (lbs s) r (pos 0)) ≡ paste so 216 (lbs s) (r + 1) = rw add-one (paste-suc so 216 (lbs s) r (pos 0) (omega (arith, weighed_room (goal.at.loop-r-preserved c).After-copy_from_slice-3)) (omega (arith, lbs_long s))) in
+    rw least (copied_more (rw next at (copied_before l.invariant (216 + r) (get_or (lbs s) r (pos 0)) (omega arith))) (pos 0) (omega (arith, ubs_long s)) most)
 
 -- the parts of a table over which weights, lbs and ubs were laid
 module _ (d weights lb ub : List ℤ) (room : length d ≡ 232) (slots : length weights ≡ 24) (rules : length lb ≡ 8) (same : length ub ≡ 8) where
@@ -167,52 +149,27 @@ module _ (d weights lb ub : List ℤ) (room : length d ≡ 232) (slots : length 
     length-paste low 224 ub 8 (omega (arith, low_long)) (omega arith) ∙ low_long,
   )
 
--- the loops are at their ends
-module _ (c : After-loop-r-2) where
-  abbrev first : After-loop-i
-  first = (goal.at.After-loop-r-2 c).After-loop-i
-
-  abbrev s : Start
-  s = (goal.at.After-loop-i first).Start
-
-  abbrev d : List ℤ
-  d = first.loop-i.coefs
-
-  abbrev g : List ℕ
-  g = first.loop-i.values
-
-  all : first.loop-i.i ≡ (p s).n
-  all = omega (arith, first.loop-i.invariant.0, first.loop-i-test.false)
-
-  coefs_are : c.loop-r-2.coefs ≡ high d (p s).weights (p s).lb (p s).ub (coefs_room first) (weights_long s) (lb_long s) (ub_long s)
-  coefs_are =
-      let l = c.loop-r-2 in
-      let k = c.loop-k in
-      let end : l.r ≡ 8 = omega (arith, l.invariant.done, ub_long s, c.loop-r-2-test.false) in
-      let weighed : k.coefs ≡ paste d 192 (p s).weights 24 = rw (weights_long s) at (copied_end k.invariant.0 (omega (arith, weights_long s, c.loop-k-test.false))) in
-      rw (end, weighed) at l.invariant.is
-
-  values_are : c.loop-k.values ≡ paste g 192 (p s).sets 24
-  values_are = rw (sets_long s) at (copied_end c.loop-k.invariant.1 (omega (arith, sets_long s, c.loop-k-test.false)))
-
 pub returns : goal.returns
 returns c =
-    let a = s c in
-    let q = p a in
-    let n = (first c).loop-i.i in
-    let long = values_room (first c) in
-    let t = tabled (d c) q.weights q.lb q.ub (coefs_room (first c)) (weights_long a) (lb_long a) (ub_long a) in
-    let units-are : take 192 (d c) ≡ coef_table q.n q.m q.kinds q.coefs = ap (take 192) (first c).loop-i.invariant.1 ∙ padded_take 192 232 (pos 0) (gather (units a) (from 0 n)) (omega arith) ∙ ap (λ k. coef_table k q.m q.kinds q.coefs) (all c) in
-    let counted-are : take 192 (g c) ≡ value_table q.n q.m q.kinds q.values q.slots = ap (take 192) (first c).loop-i.invariant.2 ∙ padded_take 192 216 0 (gather (counted a) (from 0 n)) (omega arith) ∙ ap (λ k. value_table k q.m q.kinds q.values q.slots) (all c) in
-    let coefs = coefs_are c in
-    let values = values_are c in
-    record {
+    let s = (goal.at.returns c).Start in
+    let a = (goal.at.returns c).After-copy_from_slice-3 in
+    let q = c.args.p in
+    let l = c.loop-r in
+    let d = c.loop-i.coefs in
+    let g = c.loop-i.values in
+    let n = c.loop-i.i in
+    let long = values_room (rows a) in
+    let t = tabled d q.weights (lbs s) (ubs s) (coefs_room (rows a)) (weights_long s) (lbs_long s) (ubs_long s) in
+    let all : n ≡ q.slots = omega (arith, c.loop-i-test.false) in
+    let end : l.r ≡ 8 = omega (arith, c.loop-r-test.false) in
+    let coefs : l.coefs ≡ high d q.weights (lbs s) (ubs s) (coefs_room (rows a)) (weights_long s) (lbs_long s) (ubs_long s) = rw (end, weighed_is a) at l.invariant.is in
+    let values = allowed_is a in record {
       long = ap length coefs ∙ t.4;
-      wide = ap length values ∙ length-paste (g c) 192 q.sets 24 (omega (arith, long)) (omega (arith, sets_long a)) ∙ long;
-      coefs_are = ap (take 192) coefs ∙ t.0 ∙ units-are;
+      wide = ap length values ∙ length-paste g 192 q.sets 24 (omega (arith, long)) (omega (arith, sets_long s)) ∙ long;
+      coefs_are = ap (take 192) coefs ∙ t.0 ∙ ap (take 192) c.loop-i.invariant.coefs ∙ padded_take 192 232 (pos 0) (gather (units s) (from 0 n)) (omega arith) ∙ ap (λ k. coef_table k q.rules q.terms) all;
       weights_are = ap weights_in coefs ∙ t.1;
       leasts_are = ap leasts_in coefs ∙ t.2;
       mosts_are = ap mosts_in coefs ∙ t.3;
-      values_are = ap (take 192) values ∙ paste_after (g c) 192 q.sets 24 0 192 (omega arith) (omega (arith, long)) ∙ counted-are;
-      sets_are = ap sets_in values ∙ part_pasted (g c) 192 q.sets 24 (omega (arith, long)) (sets_long a);
+      values_are = ap (take 192) values ∙ paste_after g 192 q.sets 24 0 192 (omega arith) (omega (arith, long)) ∙ ap (take 192) c.loop-i.invariant.values ∙ padded_take 192 216 0 (gather (counted s) (from 0 n)) (omega arith) ∙ ap (λ k. value_table k q.rules q.terms) all;
+      sets_are = ap sets_in values ∙ part_pasted g 192 q.sets 24 (omega (arith, long)) (sets_long s);
     }

@@ -15,67 +15,45 @@ use Rattle.slot.proofs.step_shares.Goals.{Start}
 
 -- eight shares
 module _ (s : Start) where
-  coefs_eight : length s.args.p.coefs ≡ 8
+  coefs_eight : length s.args.parts.coefs ≡ 8
   coefs_eight = search long
 
-  values_eight : length s.args.p.values ≡ 8
+  values_eight : length s.args.parts.values ≡ 8
   values_eight = search long
 
-  shares_eight : length (lanes_of s.args.p.coefs s.args.p.values s.args.v) ≡ 8
-  shares_eight = lanes_long s.args.p.coefs s.args.p.values s.args.v (coefs_eight ∙ sym values_eight) ∙ coefs_eight
+  shares_eight : length (lanes_of s.args.parts.coefs s.args.parts.values s.args.v) ≡ 8
+  shares_eight = lanes_long s.args.parts.coefs s.args.parts.values s.args.v (coefs_eight ∙ sym values_eight) ∙ coefs_eight
 
 pub loop-r-init : goal.loop-r-init
-loop-r-init c = (coefs_eight c, values_eight c, c.requires.2, copied_start (omega (arith, shares_eight c, c.requires.2)))
-
-pub offset_bounds-p-r : goal.offset_bounds-p-r
-offset_bounds-p-r c = omega arith
-
-pub bounds-p-r : goal.bounds-p-r
-bounds-p-r c = omega arith
-
-pub offset_bounds-p-r-in-loop-r : goal.offset_bounds-p-r-in-loop-r
-offset_bounds-p-r-in-loop-r c = omega arith
-
-pub bounds-p-r-in-loop-r : goal.bounds-p-r-in-loop-r
-bounds-p-r-in-loop-r c = omega arith
+loop-r-init c = (c.requires.2, copied_start (omega (arith, shares_eight c, c.requires.2)))
 
 -- a coefficient is in range
-coef_within : (s : Start) (r : ℕ) → Within 1000 (get_or s.args.p.coefs r (pos 0))
-coef_within s r = each_at (Within 1000) s.args.p.coefs r (pos 0) (record { size = omega arith }) s.requires.1
+coef_within : (s : Start) (r : ℕ) → Within 1000 (get_or s.args.parts.coefs r (pos 0))
+coef_within s r = each_at (Within 1000) s.args.parts.coefs r (pos 0) (record { size = omega arith }) s.requires.1
 
 pub lane-requires : goal.lane-requires
 lane-requires c =
     let s = (goal.at.lane-requires c).Start in
     (c.requires.0, back_within (coef_within s c.loop-r.r) tt)
 
-pub offset_bounds-row-r : goal.offset_bounds-row-r
-offset_bounds-row-r c = omega arith
-
-pub bounds-row-r : goal.bounds-row-r
-bounds-row-r c = omega arith
-
-pub overflow_add-r : goal.overflow_add-r
-overflow_add-r c = omega arith
-
 pub loop-r-preserved : goal.loop-r-preserved
 loop-r-preserved c =
     let s = (goal.at.loop-r-preserved c).Start in
     let l = c.loop-r in
-    let p = c.args.p in
-    let even : length p.coefs ≡ length p.values = omega arith in
+    let p = c.args.parts in
     let is =
     back_is c.lane.ensures.1 tt
     ∙ c.lane.ensures.0
     ∙ ap (λ z. lane_of z (get_or p.values l.r 0) c.args.v) (back_is (coef_within s l.r) tt)
-    ∙ sym (lanes_at p.coefs p.values c.args.v l.r (omega arith) even) in
-    let next = rw (zero-add l.r) at (copied_more l.invariant.3 (pos 0) (omega (arith, shares_eight s)) is) in
-    (l.invariant.0, l.invariant.1, copied_long next ∙ c.requires.2, next)
+    ∙ sym (lanes_at p.coefs p.values c.args.v l.r (omega (arith, coefs_eight s)) (coefs_eight s ∙ sym (values_eight s))) in
+    let next = rw (zero-add l.r) at (copied_more l.invariant.1 (pos 0) (omega (arith, shares_eight s)) is) in
+    (copied_long next ∙ c.requires.2, next)
 
 pub shape_of-row : goal.shape_of-row
-shape_of-row c = copied_long c.loop-r.invariant.3
+shape_of-row c = copied_long c.loop-r.invariant.1
 
 pub returns : goal.returns
 returns c =
     let s = (goal.at.returns c).Start in
-    let p = c.args.p in
-    copied_end c.loop-r.invariant.3 (omega (arith, shares_eight s)) ∙ all_pasted c.args.row.now (lanes_of p.coefs p.values c.args.v) (shares_eight s ∙ sym c.requires.2)
+    let p = c.args.parts in
+    copied_end c.loop-r.invariant.1 (omega (arith, shares_eight s)) ∙ all_pasted c.args.row.now (lanes_of p.coefs p.values c.args.v) (shares_eight s ∙ sym c.requires.2)

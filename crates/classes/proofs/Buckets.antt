@@ -8,6 +8,7 @@ use native.Mathlib.Omega.{arith}
 use borrow.Author.Tests.{eqb-true, eqb-false}
 use lib.Dec.{eqb}
 use lib.ListN.{length, get_or, get_or-append}
+use Rattle.std.specs.Prelude.{Some, None}
 use Rattle.laws.proofs.Each.{Each}
 use Rattle.laws.proofs.Lists.{no_true}
 use Rattle.meaning.specs.Diagram.{State, eq_state, Node}
@@ -96,14 +97,8 @@ module _ (t : State) (ts : List Node) where
     pub walked_less : (b : ℕ) → b ≡ latest ts (bucket_at ts (c - 1)) (c - 1) → b < c
     walked_less b e = omega (arith, latest_le ts (bucket_at ts (c - 1)) (c - 1))
 
-    pub walked_found : eq_state t (get_or ts (c - 1) no_node).0 ≡ true → Found t ts c
-    walked_found f = record {
-      no = λ e. absurd (h e);
-      yes = λ k e. let same : k ≡ c - 1 = omega arith in (omega (arith, w.low), rw same f);
-    }
+    pub walked_found : eq_state t (get_or ts (c - 1) no_node).0 ≡ true → Found t ts (Some (c - 1))
+    walked_found f = (omega (arith, w.low), f)
 
-  pub walked_end : (c : ℕ) → c ≡ 0 → Walked t ts c → Found t ts 0
-  walked_end c e w = record {
-    no = λ z. each_places (λ n. eq_state t n.0 ≡ false) ts no_node (λ k h. w.past k (omega arith) h);
-    yes = λ k z. absurd (omega arith);
-  }
+  pub walked_end : (c : ℕ) → c ≡ 0 → Walked t ts c → Found t ts None
+  walked_end c e w = each_places (λ n. eq_state t n.0 ≡ false) ts no_node (λ k h. w.past k (omega arith) h)

@@ -1,3 +1,0 @@
--- What is true of the places of a layer.
--- bytes of arcs
-pub mod Bytes
