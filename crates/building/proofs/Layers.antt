@@ -1,7 +1,7 @@
 -- Is a layer that is made from a row the layer of the meaning?
-use mathlib.Core.Path.{◌≡◌, refl, sym, ap, subst, ◌∙◌}
+use mathlib.Core.Path.{◌≡◌, refl, sym, ap, ◌∙◌}
 use mathlib.Core.List.{List, [], ◌∷◌, ◌++◌, map, map-append}
-use mathlib.Core.Bool.{Bool, true, false, ◌||◌, cond, true≢false}
+use mathlib.Core.Bool.{Bool, true, false, cond, true≢false}
 use mathlib.Core.Option
 use mathlib.Core.Option.{Option}
 use Prim.Native.Nat.{ℕ, suc, min, ◌+◌, ◌*◌, ◌-◌, ◌≤◌}
@@ -18,7 +18,7 @@ use Rattle.lent.specs.Small.{Small}
 use Rattle.lent.specs.Wide.{Sized}
 use Rattle.lent.proofs.FirstOrder.{first_states}
 use Rattle.classes.specs.Classes.{class_byte}
-use Rattle.layer.specs.Places.{builder_of, placed}
+use Rattle.layer.specs.Places.{placed}
 use Rattle.building.specs.Layers.{Made}
 use Rattle.building.proofs.Filled.{Of, OfIf, fill, Long, distinct_of, nodes_of_lem, distinct_filled, arcs_filled, sinks_filled}
 use Rattle.building.proofs.Lists.{map-flat, zeros_map, padded_front, flat-padded}
@@ -47,15 +47,6 @@ module _ (b : Builder) (q : Campaign) (w i : ℕ) (ns : List Node) (s : ℕ) whe
       let os = map (arrivals first_appearance q i s (t ∷ ss)) ns in
       length-map os (map (arc_byte b w (states os))) ∙ length-map ns (arrivals first_appearance q i s (t ∷ ss))
 
--- either, where one is known
-or_true : (a : Bool) → (a || true) ≡ true
-or_true true = refl
-or_true false = refl
-
-or_false : (a : Bool) → (a || false) ≡ a
-or_false true = refl
-or_false false = refl
-
 -- the last slot has none behind it
 abbrev pub none_left : List ℕ → Bool
 none_left [] = true
@@ -78,7 +69,7 @@ pub record Stands (b : Builder) (q : Campaign) (w i : ℕ) (ns : List Node) (s :
   pub bytes : part ≡ flat (padded w (replicate 8 0) (layer_at b q w i ns s ss).arcs)
   pub count : none_left ss ≡ false → n ≡ length (layer_at b q w i ns s ss).states
 
-module _ (relax : Bool) (q : Campaign) (small : Small q) (w i : ℕ) (ns : List Node) (h : ℕ) (totals : Nodes q h ns) (s : ℕ) where
+module _ (b : Builder) (q : Campaign) (small : Small q) (w i : ℕ) (ns : List Node) (h : ℕ) (totals : Nodes q h ns) (s : ℕ) where
   abbrev arrived : List ℕ → List (Option Node)
   arrived ss = flat (map (arrivals first_appearance q i s ss) ns)
 
@@ -99,16 +90,16 @@ module _ (relax : Bool) (q : Campaign) (small : Small q) (w i : ℕ) (ns : List 
     filled_states = filled_is ∙ ap (map fill) (sym (first_states q i s ss ns))
 
   abbrev Sizes : List ℕ → Type 0
-  Sizes ss = Sized 8 w ((layer_at (builder_of relax) q w i ns s ss).arcs ∷ [])
+  Sizes ss = Sized 8 w ((layer_at b q w i ns s ss).arcs ∷ [])
 
-  abbrev MadeOf : Bool → ℕ → List ℕ → List ℕ → ℕ → Type 0
+  abbrev MadeOf : Builder → ℕ → List ℕ → List ℕ → ℕ → Type 0
   MadeOf one k ss part count = Made one k (map (Option.map fill) (arrived ss)) (replicate (w * 8) 0) part count
 
   arrived_size : (ss : List ℕ) → length (map (Option.map fill) (arrived ss)) ≡ length (arrived ss)
   arrived_size ss = length-map (arrived ss) (Option.map fill)
 
   module _ {part : List ℕ} {count : ℕ} where
-    last_stands : Sizes [] → MadeOf true 1 [] part count → Stands (builder_of relax) q w i ns s [] part count
+    last_stands : Sizes [] → MadeOf relaxed 1 [] part count → Stands b q w i ns s [] part count
     last_stands sized m =
         let ts = distinct [] (arrived []) in
         let os = map (arrivals first_appearance q i s []) ns in
@@ -118,9 +109,8 @@ module _ (relax : Bool) (q : Campaign) (small : Small q) (w i : ℕ) (ns : List 
           count = λ e. absurd (true≢false e);
         }
 
-    next_stands : (t : ℕ) (ss : List ℕ) → Sizes (t ∷ ss) → MadeOf relax w (t ∷ ss) part count → Stands (builder_of relax) q w i ns s (t ∷ ss) part count
+    next_stands : (t : ℕ) (ss : List ℕ) → Sizes (t ∷ ss) → MadeOf b w (t ∷ ss) part count → Stands b q w i ns s (t ∷ ss) part count
     next_stands t ss sized m =
-        let b = builder_of relax in
         let os = map (arrivals first_appearance q i s (t ∷ ss)) ns in
         let long : Each (Of (Long (length q.rules))) (states os) = rw (first_states q i s (t ∷ ss) ns) (distinct_long (t ∷ ss)) in
         let bytes = arcs_filled (length q.rules) small.rules b w (states os) long (arrived (t ∷ ss)) (arrived_long (t ∷ ss)) in
@@ -130,14 +120,14 @@ module _ (relax : Bool) (q : Campaign) (small : Small q) (w i : ℕ) (ns : List 
         }
 
     -- the last layer is made as a relaxed one with one place
-    pub layer_stands : (ss : List ℕ) (last : Bool) → last ≡ none_left ss → Sizes ss → MadeOf (relax || last) (cond last 1 w) ss part count → Stands (builder_of relax) q w i ns s ss part count
-    layer_stands [] last e sized m = last_stands sized (subst (λ (t : Bool). MadeOf t 1 [] part count) (or_true relax) (rw e at m))
-    layer_stands (t ∷ ss) last e sized m = next_stands t ss sized (subst (λ (u : Bool). MadeOf u w (t ∷ ss) part count) (or_false relax) (rw e at m))
+    pub layer_stands : (ss : List ℕ) (last : Bool) → last ≡ none_left ss → Sizes ss → MadeOf (cond last relaxed b) (cond last 1 w) ss part count → Stands b q w i ns s ss part count
+    layer_stands [] last e sized m = last_stands sized (rw e at m)
+    layer_stands (t ∷ ss) last e sized m = next_stands t ss sized (rw e at m)
 
   -- the totals of the next nodes
-  pub next_totals : (b : Builder) (ss : List ℕ) → Nodes q (h + 7000) (next_nodes b q w i ns s ss)
-  next_totals b [] = tt
-  next_totals b (t ∷ ss) =
+  pub next_totals : (ss : List ℕ) → Nodes q (h + 7000) (next_nodes b q w i ns s ss)
+  next_totals [] = tt
+  next_totals (t ∷ ss) =
       nodes_of_lem (Totals (length q.rules) (h + 7000)) totals_merged b w (states (map (arrivals first_appearance q i s (t ∷ ss)) ns)) (rw (first_states q i s (t ∷ ss) ns) (distinct_totals (t ∷ ss)))
 
 -- ---- how many nodes come next

@@ -8,8 +8,7 @@ pub mod Children
 -- one layer, and all of them
 pub mod Layers
 pub mod Slots
--- loops over the rules and over the bytes
+-- a loop over the rules
 pub mod Bounds
-pub mod Zeros
 -- all slots of a problem by value
 pub mod Problems

@@ -18,7 +18,7 @@ use Rattle.laws.specs.Lists.{every, flat, from, padded, parted}
 use Rattle.laws.proofs.Each.{Each, each_map}
 use Rattle.laws.proofs.Filled.{length-padded, each_padded, padded_none, padded_paste, padded_split, gather_more}
 use Rattle.meaning.specs.Plan.{Rule, Campaign, slots}
-use Rattle.meaning.specs.Diagram.{State, reaches, Node, first_appearance, arrivals, starts, Builder, arc_byte, states, nodes_of, Layer, layers, source, layers_of, Arcs, narrow, is_exact, built}
+use Rattle.meaning.specs.Diagram.{State, reaches, Node, first_appearance, arrivals, starts, Builder, relaxed, arc_byte, states, nodes_of, Layer, layers, source, layers_of, Arcs, narrow, is_exact, built}
 use Rattle.meaning.specs.Filter.{Numbers, down_at, node_count}
 use Rattle.meaning.specs.Buffers.{arcs_need, arc_bytes}
 use Rattle.lent.specs.Small.{Small}
@@ -33,7 +33,6 @@ use Rattle.state.proofs.Padded.{bounds_of}
 use Rattle.state.proofs.Joined.{no_pair}
 use Rattle.classes.specs.Classes.{Held, Totalled, arrival_at}
 use Rattle.rows.proofs.Laid.{place_in, part_is, put, put_pastes}
-use Rattle.layer.specs.Places.{builder_of}
 use Rattle.building.specs.Layers.{Made}
 use Rattle.building.proofs.Filled.{fill}
 use Rattle.building.proofs.Lists.{each_left, each_right, every_more, padded_behind, flat-padded}
@@ -45,24 +44,24 @@ abbrev arcs_of : List Layer → Arcs
 arcs_of ls = map (λ l. l.arcs) ls
 
 -- all arcs as they will stand in the buffer, w nodes to a layer
-abbrev pub all_arcs : Bool → Campaign → ℕ → Arcs
-all_arcs relax q w = wide 8 w (built (builder_of relax) q w)
+abbrev pub all_arcs : Builder → Campaign → ℕ → Arcs
+all_arcs b q w = wide 8 w (built b q w)
 
 -- the layers done, and the n nodes that stand before slot i, whose down numbers have their states; e says whether all were narrow, z is the number of bytes
-pub record Building (relax : Bool) (q : Campaign) (w z : ℕ) (arcs : List ℕ) (n : ℕ) (e : Bool) (i : ℕ) : Type 0 where
+pub record Building (b : Builder) (q : Campaign) (w z : ℕ) (arcs : List ℕ) (n : ℕ) (e : Bool) (i : ℕ) : Type 0 where
   pub done : List Layer
   pub ns : List Node
-  pub is : layers_of (builder_of relax) q w ≡ done ++ layers (builder_of relax) first_appearance q w i ns (drop i q.sets)
+  pub is : layers_of b q w ≡ done ++ layers b first_appearance q w i ns (drop i q.sets)
   pub count : length done ≡ i
   pub totals : Nodes q (7000 * i) ns
   pub nodes : i < slots q → n ≡ length ns
-  pub stated : Stated (downs_at q (all_arcs relax q w) i) ns
+  pub stated : Stated (downs_at q (all_arcs b q w) i) ns
   pub bytes : arcs ≡ padded z 0 (laid 8 w (arcs_of done))
   pub exact : e ≡ every (narrow w) done
 
 -- ---- before the first slot
-module _ (relax : Bool) (q : Campaign) (small : Small q) (w : ℕ) where
-  pub building_start : (z : ℕ) (arcs : List ℕ) → arcs ≡ replicate z 0 → Building relax q w z arcs 1 true 0
+module _ (b : Builder) (q : Campaign) (small : Small q) (w : ℕ) where
+  pub building_start : (z : ℕ) (arcs : List ℕ) → arcs ≡ replicate z 0 → Building b q w z arcs 1 true 0
   building_start z arcs e = record {
     done = [];
     ns = source q;
@@ -70,7 +69,7 @@ module _ (relax : Bool) (q : Campaign) (small : Small q) (w : ℕ) where
     count = refl;
     totals = (record { long = length-map q.rules (λ r. (r.start, r.start)); inside = starts_inside }, tt);
     nodes = λ h. refl;
-    stated = rw (down_first q (all_arcs relax q w)) (refl, tt);
+    stated = rw (down_first q (all_arcs b q w)) (refl, tt);
     bytes = e ∙ sym (padded_none 0 z);
     exact = refl;
   }
@@ -95,13 +94,10 @@ last_left (x ∷ l) zero h = ne_eqb 0 (suc (length l)) (λ e. absurd (omega arit
 last_left (x ∷ l) (suc k) h = eqb-suc-suc k (length l) ∙ last_left l k (omega arith)
 
 -- what a layer makes of the same
-made_same : {one : Bool} {k : ℕ} {xs ys : List (Option Node)} {part₀ part₁ part : List ℕ} {count : ℕ} → xs ≡ ys → part₀ ≡ part₁ → Made one k xs part₀ part count → Made one k ys part₁ part count
+made_same : {one : Builder} {k : ℕ} {xs ys : List (Option Node)} {part₀ part₁ part : List ℕ} {count : ℕ} → xs ≡ ys → part₀ ≡ part₁ → Made one k xs part₀ part count → Made one k ys part₁ part count
 made_same {one} {k} {xs} {ys} {part₀} {part₁} {part} {count} ex ep m = subst (λ l. Made one k ys l part count) ep (subst (λ l. Made one k l part₀ part count) ex m)
 
-module _ {relax : Bool} {q : Campaign} {w z : ℕ} {arcs : List ℕ} {n : ℕ} {e : Bool} {i : ℕ} (p : Building relax q w z arcs n e i) (small : Small q) where
-  abbrev b : Builder
-  b = builder_of relax
-
+module _ {b : Builder} {q : Campaign} {w z : ℕ} {arcs : List ℕ} {n : ℕ} {e : Bool} {i : ℕ} (p : Building b q w z arcs n e i) (small : Small q) where
   -- after the last slot
   pub building_end : slots q ≤ i → (arcs ≡ arc_bytes q w z (built b q w)) × (e ≡ is_exact b q w)
   building_end h =
@@ -148,7 +144,7 @@ module _ {relax : Bool} {q : Campaign} {w z : ℕ} {arcs : List ℕ} {n : ℕ} {
     few = omega (arith, layer_sized.0, arcs_long b q w i p.ns set behind)
 
     abbrev downs_here : List Numbers
-    downs_here = downs_at q (all_arcs relax q w) i
+    downs_here = downs_at q (all_arcs b q w) i
 
     -- what `find` asks for
     pub building_held : (here row : List ℤ) → here ≡ row_vec downs_here → Row here → row ≡ slot_vec q i → Held here row × Totalled here n
@@ -172,7 +168,7 @@ module _ {relax : Bool} {q : Campaign} {w z : ℕ} {arcs : List ℕ} {n : ℕ} {
     abbrev filled_up : List (List ℕ) → List (List ℕ)
     filled_up l = padded w (replicate 8 0) l
 
-    all_are : all_arcs relax q w ≡ map filled_up (arcs_of p.done) ++ filled_up layer.arcs ∷ map filled_up (arcs_of others)
+    all_are : all_arcs b q w ≡ map filled_up (arcs_of p.done) ++ filled_up layer.arcs ∷ map filled_up (arcs_of others)
     all_are =
         ap (λ ls. map filled_up (arcs_of ls)) next_is
         ∙ ap (map filled_up) (map-append (λ (l : Layer). l.arcs) p.done (layer ∷ others))
@@ -181,13 +177,13 @@ module _ {relax : Bool} {q : Campaign} {w z : ℕ} {arcs : List ℕ} {n : ℕ} {
     before_long : length (map filled_up (arcs_of p.done)) ≡ i
     before_long = length-map (arcs_of p.done) filled_up ∙ length-map p.done (λ l. l.arcs) ∙ p.count
 
-    pub all_at : get_or (all_arcs relax q w) i [] ≡ filled_up layer.arcs
+    pub all_at : get_or (all_arcs b q w) i [] ≡ filled_up layer.arcs
     all_at =
-        ap (λ k. get_or (all_arcs relax q w) k []) (sym before_long)
+        ap (λ k. get_or (all_arcs b q w) k []) (sym before_long)
         ∙ ap (λ a. get_or a (length (map filled_up (arcs_of p.done))) []) all_are
         ∙ get_or-append_seam (map filled_up (arcs_of p.done)) (filled_up layer.arcs) (map filled_up (arcs_of others)) []
 
-    all_behind : drop (suc i) (all_arcs relax q w) ≡ map filled_up (arcs_of others)
+    all_behind : drop (suc i) (all_arcs b q w) ≡ map filled_up (arcs_of others)
     all_behind =
         let l = map filled_up (arcs_of p.done) in
         let r = filled_up layer.arcs ∷ map filled_up (arcs_of others) in
@@ -195,7 +191,7 @@ module _ {relax : Bool} {q : Campaign} {w z : ℕ} {arcs : List ℕ} {n : ℕ} {
         ∙ ap (λ k. drop k (l ++ r)) (sym (add-one i) ∙ ap (λ k. k + 1) (sym before_long))
         ∙ drop-append-add l r 1
 
-    all_long : length (all_arcs relax q w) ≡ slots q
+    all_long : length (all_arcs b q w) ≡ slots q
     all_long = length-map (built b q w) filled_up ∙ built_long b q w
 
     -- a layer that comes has w nodes
@@ -209,23 +205,23 @@ module _ {relax : Bool} {q : Campaign} {w z : ℕ} {arcs : List ℕ} {n : ℕ} {
     no_arcs (suc k) = (refl, no_arcs k)
 
     -- the next layer's numbers have the states of its nodes
-    next_has : Stated (downs_at q (all_arcs relax q w) (suc i)) after
+    next_has : Stated (downs_at q (all_arcs b q w) (suc i)) after
     next_has = go behind refl
       where
-        go : (ss : List ℕ) → behind ≡ ss → Stated (downs_at q (all_arcs relax q w) (suc i)) (next_nodes b q w i p.ns set ss)
+        go : (ss : List ℕ) → behind ≡ ss → Stated (downs_at q (all_arcs b q w) (suc i)) (next_nodes b q w i p.ns set ss)
         go [] f = tt
         go (t ∷ ss) f =
             let os = map (arrivals first_appearance q i set (t ∷ ss)) p.ns in
             let l = map (map (arc_byte b w (states os))) os in
             let rest = replicate (w - length l) (replicate {A = ℕ} 8 0) in
             let same : layer.arcs ≡ l = ap (λ (x : List ℕ). (layer_at b q w i p.ns set x).arcs) f in
-            let here : get_or (all_arcs relax q w) i [] ≡ l ++ rest = all_at ∙ ap filled_up same ∙ padded_split w (replicate {A = ℕ} 8 0) l (omega (arith, ap length same, layer_sized.0)) in
-            let count : node_count (drop (suc i) (all_arcs relax q w)) ≡ w =
+            let here : get_or (all_arcs b q w) i [] ≡ l ++ rest = all_at ∙ ap filled_up same ∙ padded_split w (replicate {A = ℕ} 8 0) l (omega (arith, ap length same, layer_sized.0)) in
+            let count : node_count (drop (suc i) (all_arcs b q w)) ≡ w =
             ap node_count all_behind
             ∙ ap (λ (x : List ℕ). node_count (map filled_up (arcs_of (layers b first_appearance q w (suc i) (next_nodes b q w i p.ns set x) x)))) f
             ∙ count_next (next_nodes b q w i p.ns set (t ∷ ss)) t ss in
-            let made : downs_at q (all_arcs relax q w) (suc i) ≡ map (λ k. down_at q i k downs_here (l ++ rest)) (from 0 w) =
-            down_next q (all_arcs relax q w) i (omega (arith, all_long)) ∙ (λ d. map (λ k. down_at q i k downs_here (here d)) (from 0 (count d))) in
+            let made : downs_at q (all_arcs b q w) (suc i) ≡ map (λ k. down_at q i k downs_here (l ++ rest)) (from 0 w) =
+            down_next q (all_arcs b q w) i (omega (arith, all_long)) ∙ (λ d. map (λ k. down_at q i k downs_here (here d)) (from 0 (count d))) in
             subst (λ (x : List Numbers). Stated x (nodes_of b w (states os))) (sym made) (next_stated b w wide q i set (t ∷ ss) downs_here p.ns p.stated rest (no_arcs (w - length l)) w (omega arith))
 
     module _ (need : arcs_need q w ≤ z) where
@@ -245,7 +241,7 @@ module _ {relax : Bool} {q : Campaign} {w z : ℕ} {arcs : List ℕ} {n : ℕ} {
       module _ (here row : List ℤ) (s : ℕ) (last : Bool) (limit : State) (part : List ℕ) (count : ℕ)
           (eh : here ≡ row_vec downs_here) (er : row ≡ slot_vec q i) (es : s ≡ set) (el : last ≡ eqb (i + 1) (slots q))
           (ek : limit ≡ lessened (padded 8 no_pair (map bounds_of q.rules)) (padded 8 no_pair (reaches q (i + 1) (drop (i + 1) q.sets))))
-          (made : Made (relax || last) (cond last 1 w) (map (arrival_at here row s limit) (from 0 (n * 8))) (take (i * (w * 8) + w * 8 - i * (w * 8)) (drop (i * (w * 8)) arcs)) part count) where
+          (made : Made (cond last relaxed b) (cond last 1 w) (map (arrival_at here row s limit) (from 0 (n * 8))) (take (i * (w * 8) + w * 8 - i * (w * 8)) (drop (i * (w * 8)) arcs)) part count) where
         limit_is : limit ≡ lessened (padded 8 no_pair (map bounds_of q.rules)) (padded 8 no_pair (reaches q (suc i) behind))
         limit_is = ek ∙ ap (λ k. lessened (padded 8 no_pair (map bounds_of q.rules)) (padded 8 no_pair (reaches q k (drop k q.sets)))) (add-one i)
 
@@ -256,10 +252,10 @@ module _ {relax : Bool} {q : Campaign} {w z : ℕ} {arcs : List ℕ} {n : ℕ} {
         last_is = el ∙ ap (λ k. eqb k (slots q)) (add-one i) ∙ last_left q.sets (suc i) h
 
         one : Stands b q w i p.ns set behind part count
-        one = layer_stands relax q small w i p.ns (7000 * i) p.totals set behind last last_is (layer_sized, tt) (made_same xs_are building_part made)
+        one = layer_stands b q small w i p.ns (7000 * i) p.totals set behind last last_is (layer_sized, tt) (made_same xs_are building_part made)
 
         -- the layer's bytes are those of the layer among all arcs
-        pub building_bytes : (length part ≡ w * 8) × (parted w 8 part ≡ get_or (all_arcs relax q w) i [])
+        pub building_bytes : (length part ≡ w * 8) × (parted w 8 part ≡ get_or (all_arcs b q w) i [])
         building_bytes =
             let l = filled_up layer.arcs in
             let wide_enough = length-padded (replicate {A = ℕ} 8 0) w layer.arcs in
@@ -289,16 +285,16 @@ module _ {relax : Bool} {q : Campaign} {w z : ℕ} {arcs : List ℕ} {n : ℕ} {
             go false f = ap (λ k. leb k w) (one.count (sym last_is ∙ f))
 
         -- one slot more
-        pub building_more : (n' : ℕ) (e' : Bool) → n' ≡ min count w → e' ≡ (e && (last || leb count w)) → Building relax q w z (put arcs (i * (w * 8)) (w * 8) part) n' e' (i + 1)
+        pub building_more : (n' : ℕ) (e' : Bool) → n' ≡ min count w → e' ≡ (e && (last || leb count w)) → Building b q w z (put arcs (i * (w * 8)) (w * 8) part) n' e' (i + 1)
         building_more n' e' ec ee =
-            subst (λ k. Building relax q w z (put arcs (i * (w * 8)) (w * 8) part) n' e' k) (sym (add-one i)) (record {
+            subst (λ k. Building b q w z (put arcs (i * (w * 8)) (w * 8) part) n' e' k) (sym (add-one i)) (record {
               done = p.done ++ layer ∷ [];
               ns = after;
               is = next_is ∙ sym (append_assoc p.done (layer ∷ []) others);
               count = omega (arith, length-append p.done (layer ∷ []), p.count);
               totals =
                   let o : 7000 * i + 7000 ≡ 7000 * suc i = omega arith in
-                  subst (λ k. Nodes q k after) o (next_totals relax q small w i p.ns (7000 * i) p.totals set b behind);
+                  subst (λ k. Nodes q k after) o (next_totals b q small w i p.ns (7000 * i) p.totals set behind);
               nodes = λ more. ec ∙ ap (λ k. min k w) (one.count (more_left more)) ∙ sym (next_count b q w i p.ns set behind wide);
               stated = next_has;
               bytes = laid_on;

@@ -37,7 +37,7 @@ use Rattle.slot.specs.Tables.{coefs_in, weights_in, Tabled}
 use Rattle.slot.proofs.Said.{said_slot, said_small, rules_long, tabled_coefs, tabled_weight, tabled_row}
 use Rattle.rows.proofs.Laid.{part_is, place_in, put, put_pastes, pasted_long}
 use Rattle.rows.proofs.Lanes.{each_replicate}
-use Rattle.numbers.specs.Whole.{Ready, Formed, half_cells, Standing, Fell}
+use Rattle.numbers.specs.Whole.{Ready, Sized, Formed, half_cells, Standing, Fell}
 use Rattle.numbers.proofs.Blocks.{Onward, onward_start, onward_place, onward_more, onward_end, Back, back_start, back_place, back_part, back_more, back_end, block_at, blocks_first, put_again}
 
 or_true : (t : Bool) → (t || true) ≡ true
@@ -62,11 +62,11 @@ pub record Setting (q : Campaign) (w n m : ℕ) (b : List ℕ) (a : Arcs) : Type
 pub sets_long : {p : Problem} {coefs : List ℤ} {values : List ℕ} → Tabled p coefs values → length p.sets ≡ 24
 sets_long {p} {coefs} {values} t = sym (ap length t.sets_are) ∙ length-take-le 24 (drop 192 values) (omega (arith, length-drop 192 values, t.wide))
 
-pub setting : {p : Problem} {w : ℕ} {b : List ℕ} → Ready p w → Formed (campaign_of p) w b → length p.sets ≡ 24 → Setting (campaign_of p) w p.n p.m b (arcs_in (campaign_of p) w b)
+pub setting : {p : Problem} {w : ℕ} {b : List ℕ} → Ready p w → Formed (campaign_of p) w b → length p.sets ≡ 24 → Setting (campaign_of p) w p.slots p.rules b (arcs_in (campaign_of p) w b)
 setting {p} {w} {b} r f e =
     let h = right version1 p r.right in
-    let k = length (take p.n p.sets) in
-    let slots : k ≡ p.n = length-take-le p.n p.sets (omega (arith, h.head.most)) in
+    let k = length (take p.slots p.sets) in
+    let slots : k ≡ p.slots = length-take-le p.slots p.sets (omega (arith, h.head.most)) in
     let turned : 8 * k * w ≡ k * (w * 8) = mul_assoc 8 k w ∙ mul_comm 8 (k * w) ∙ mul_assoc k w 8 in
     let long : length b ≡ k * (w * 8) = f.long ∙ turned in
     record {
@@ -80,43 +80,58 @@ setting {p} {w} {b} r f e =
     }
 
 -- a campaign's slots
-pub slots_are : {p : Problem} {w : ℕ} → Ready p w → length p.sets ≡ 24 → slots (campaign_of p) ≡ p.n
-slots_are {p} r e = length-take-le p.n p.sets (omega (arith, (right version1 p r.right).head.most))
+pub slots_are : {p : Problem} {w : ℕ} → Ready p w → length p.sets ≡ 24 → slots (campaign_of p) ≡ p.slots
+slots_are {p} r e = length-take-le p.slots p.sets (omega (arith, (right version1 p r.right).head.most))
+
+pub standing_most : {p : Problem} {w from : ℕ} {arcs : List ℕ} {cells : List ℤ} → Ready p w → length p.sets ≡ 24 → Standing (campaign_of p) w from arcs cells → from ≤ p.slots
+standing_most r e s = omega (arith, s.most, slots_are r e)
 
 -- the down numbers that stand, by the problem's own numbers
 pub standing_is : {p : Problem} {w from : ℕ} {arcs : List ℕ} {cells : List ℤ} → Ready p w → length p.sets ≡ 24 → Standing (campaign_of p) w from arcs cells → 0 < from
-    → (from ≤ p.n) × (let k = suc from * (w * (4 * p.m + 3)) in take k cells ≡ take k (half_cells (campaign_of p) w (down_numbers (campaign_of p) (arcs_in (campaign_of p) w arcs))))
+    → (from ≤ p.slots) × (let k = suc from * (w * (4 * p.rules + 3)) in take k cells ≡ take k (half_cells (campaign_of p) w (down_numbers (campaign_of p) (arcs_in (campaign_of p) w arcs))))
 standing_is {p} {w} {from} {arcs} {cells} r e s h =
     let all = half_cells (campaign_of p) w (down_numbers (campaign_of p) (arcs_in (campaign_of p) w arcs)) in
     let count = ap (λ (m : ℕ). suc from * (w * (4 * m + 3))) (rules_long p) in
     (omega (arith, s.most, slots_are r e), sym (ap (λ (k : ℕ). take k cells) count) ∙ s.are h ∙ ap (λ (k : ℕ). take k all) count)
 
 -- the cells of a campaign with m rules
-pub need_is : {p : Problem} {w : ℕ} → Ready p w → length p.sets ≡ 24 → cells_need (campaign_of p) w ≡ suc p.n * (w * (4 * p.m + 3))
+pub need_is : {p : Problem} {w : ℕ} → Ready p w → length p.sets ≡ 24 → cells_need (campaign_of p) w ≡ suc p.slots * (w * (4 * p.rules + 3))
 need_is {p} {w} r e =
     let h = right version1 p r.right in
-    let slots : length (take p.n p.sets) ≡ p.n = length-take-le p.n p.sets (omega (arith, h.head.most)) in
-    (λ i. suc (slots i) * w * (4 * rules_long p i + 3)) ∙ mul_assoc (suc p.n) w (4 * p.m + 3)
+    let slots : length (take p.slots p.sets) ≡ p.slots = length-take-le p.slots p.sets (omega (arith, h.head.most)) in
+    (λ i. suc (slots i) * w * (4 * rules_long p i + 3)) ∙ mul_assoc (suc p.slots) w (4 * p.rules + 3)
 
 -- the sizes that a problem without fault has
-pub few_rules : {p : Problem} {w : ℕ} → Ready p w → p.m ≤ 8
+pub few_rules : {p : Problem} {w : ℕ} → Ready p w → p.rules ≤ 8
 few_rules {p} r = (right version1 p r.right).head.rules
 
-pub few_slots : {p : Problem} {w : ℕ} → Ready p w → p.n ≤ 24
+pub few_slots : {p : Problem} {w : ℕ} → Ready p w → p.slots ≤ 24
 few_slots {p} r = (right version1 p r.right).head.most
 
-pub few_size : {p : Problem} {w : ℕ} → Ready p w → w * (4 * p.m + 3) ≤ 560
-few_size {p} {w} r = let node : 4 * p.m + 3 ≤ 35 = omega (arith, few_rules r) in mul-le-mul r.few node
+pub few_size : {p : Problem} {w : ℕ} → Ready p w → w * (4 * p.rules + 3) ≤ 560
+few_size {p} {w} r = let node : 4 * p.rules + 3 ≤ 35 = omega (arith, few_rules r) in mul-le-mul r.few node
+
+-- the buffers, by the problem's own numbers
+pub sized : {p : Problem} {w k : ℕ} {b : List ℕ} → Ready p w → Formed (campaign_of p) w b → length p.sets ≡ 24 → k ≡ cells_need (campaign_of p) w → Sized p.slots p.rules w (length b) k
+sized {p} {w} {k} r f e o =
+    let layers : suc p.slots ≤ 25 = omega (arith, few_slots r) in
+    let all : suc p.slots * (w * (4 * p.rules + 3)) ≤ 25 * 560 = mul-le-mul layers (few_size r) in
+    let long : k ≡ suc p.slots * (w * (4 * p.rules + 3)) = o ∙ need_is r e in
+    record { slots = few_slots r; rules = few_rules r; width = r.few; arcs = (setting r f e).long; cells = omega (arith, suc-mul p.slots (w * (4 * p.rules + 3))); few = omega arith }
+
+-- a layer's part of the cells
+pub cells_room : {n m w b k : ℕ} → Sized n m w b k → (i : ℕ) → i ≤ n → i * (w * (4 * m + 3)) + w * (4 * m + 3) ≤ k
+cells_room {m = m} {w = w} s i h = omega (arith, s.cells, mul-le-mul_right (w * (4 * m + 3)) h)
 
 -- what `slot_row` asks for
-pub slot_asks : {p : Problem} {w : ℕ} {coefs : List ℤ} {values : List ℕ} → Ready p w → Tabled p coefs values → (i : ℕ) → i < p.n → (row : List ℤ) → length row ≡ 72
+pub slot_asks : {p : Problem} {w : ℕ} {coefs : List ℤ} {values : List ℕ} → Ready p w → Tabled p coefs values → (i : ℕ) → i < p.slots → (row : List ℤ) → length row ≡ 72
     → (i < 24) × Each (Within 1000) (coefs_in coefs) × Within 10000 (get_or (weights_in coefs) i (pos 0)) × (length coefs ≡ 232) × (length values ≡ 216) × (length row ≡ 72)
 slot_asks {p} r t i l row e =
     let h = right version1 p r.right in
     (said_slot p h i l, tabled_coefs p h t, tabled_weight p h t i l, t.long, t.wide, e)
 
 -- the row that it gives
-pub row_said : {p : Problem} {w : ℕ} {coefs : List ℤ} {values : List ℕ} → Ready p w → Tabled p coefs values → (i : ℕ) → i < p.n → {row : List ℤ}
+pub row_said : {p : Problem} {w : ℕ} {coefs : List ℤ} {values : List ℕ} → Ready p w → Tabled p coefs values → (i : ℕ) → i < p.slots → {row : List ℤ}
     → row ≡ slot_lanes (take 8 (drop (i * 8) coefs)) (take 8 (drop (i * 8) values)) (get_or (weights_in coefs) i (pos 0)) → row ≡ slot_vec (campaign_of p) i
 row_said {p} r t i l e = e ∙ tabled_row p (right version1 p r.right) t i l
 
@@ -182,39 +197,22 @@ pub record Up (q : Campaign) (w n m : ℕ) (a : Arcs) (e : Test) (b : List ℕ) 
   pub up_to : free ≡ false → first < n → take (suc first * (w * (4 * m + 3))) cells ≡ take (suc first * (w * (4 * m + 3))) x
   pub laid : (free ≡ true) ⊎ (first ≡ n) → Back (w * (4 * m + 3)) (cell_block q w a) (suc n) x cells k
 
--- a layer to come, and then one less
+-- a layer to come
 pub up_at : {q : Campaign} {w n m : ℕ} {a : Arcs} {e : Test} {b : List ℕ} {x : List ℤ} {free : Bool} {arcs : List ℕ} {cells next : List ℤ} {first k : ℕ} → Up q w n m a e b x free arcs cells next first k → 0 < k
     → Up q w n m a e b x free arcs cells next first (suc (k - 1))
 up_at {k = k} u h = let o : suc (k - 1) ≡ k = omega arith in rw o u
-
-pub one_less : (k : ℕ) → 0 < k → k - 1 < k
-one_less k h = omega arith
 
 module _ {q : Campaign} {w n m : ℕ} {b : List ℕ} {a : Arcs} (s : Setting q w n m b a) where
   abbrev size : ℕ
   size = w * (4 * m + 3)
 
-  -- ---- sizes
-  few_cells : suc n * size ≤ 14000
-  few_cells =
-      let c = s.count in
-      let layers : suc n ≤ 25 = omega (arith, s.whole.long) in
-      let node : 4 * m + 3 ≤ 35 = omega (arith, s.rules, s.small.rules) in
-      mul-le-mul layers (mul-le-mul s.whole.wide node)
-
+  -- ---- places
   -- the last layer's
-  pub last_place : {k : ℕ} → k ≡ suc n * size → (n * size + size ≤ k) × (n * size + size ≤ 14000)
-  last_place e = let p = place_in (suc n) size n (omega arith) in (omega arith, omega (arith, few_cells))
+  pub last_place : {k : ℕ} → k ≡ suc n * size → n * size + size ≤ k
+  last_place e = let p = place_in (suc n) size n (omega arith) in omega arith
 
-  few_bytes : length b ≤ 3072
-  few_bytes =
-      let c = s.count in
-      let layers : n ≤ 24 = omega (arith, s.whole.long) in
-      let layer : w * 8 ≤ 128 = omega (arith, s.whole.wide) in
-      omega (arith, s.long, mul-le-mul layers layer)
-
-  pub byte_place : (i : ℕ) → i < n → (i * (w * 8) + w * 8 ≤ length b) × (i * (w * 8) + w * 8 ≤ 3072)
-  byte_place i h = let p = place_in n (w * 8) i h in (omega (arith, s.long), omega (arith, s.long, few_bytes))
+  pub byte_place : (i : ℕ) → i < n → i * (w * 8) + w * 8 ≤ length b
+  byte_place i h = omega (arith, s.long, place_in n (w * 8) i h)
 
   -- ---- one layer
   pub slot_right : (i : ℕ) {row : List ℤ} → row ≡ slot_vec q i → Slot row
@@ -265,8 +263,8 @@ module _ {q : Campaign} {w n m : ℕ} {b : List ℕ} {a : Arcs} (s : Setting q w
     pub stand_inside : Each (Within 4000000) (part cells k size)
     stand_inside = let c = s.count in rw stand_block (half_right q s.small w a s.whole k (omega arith)).inside
 
-    pub stand_place : (k * size + size ≤ length cells) × (k * size + size ≤ 14000)
-    stand_place = let p = place_in (suc n) size k (omega arith) in (omega arith, omega (arith, few_cells))
+    pub stand_place : k * size + size ≤ length cells
+    stand_place = let p = place_in (suc n) size k (omega arith) in omega arith
 
     pub down_from : {here one : List ℤ} → one ≡ row_vec (some (replicate m origin, pos 0) ∷ []) → here ≡ flat (map (down_lanes m) (parted w (4 * m + 3) (part cells k size))) ++ drop (w * 17) one → Down q w n m a cells here k
     down_from {here} {one} e f =
@@ -288,8 +286,8 @@ module _ {q : Campaign} {w n m : ℕ} {b : List ℕ} {a : Arcs} (s : Setting q w
     pub down_rest : drop (w * 17) here ≡ replicate ((16 - w) * 17) (pos 4000000)
     down_rest = let c = s.count in ap (drop (w * 17)) d.row ∙ down_behind q s.small w a s.whole s.some i (omega (arith, d.done))
 
-    pub down_place : (i * size + size ≤ length cells) × (i * size + size ≤ 14000)
-    down_place = let p = onward_place d.laid (omega (arith, d.done)) in (p, omega (arith, d.laid.long, few_cells))
+    pub down_place : i * size + size ≤ length cells
+    down_place = onward_place d.laid (omega (arith, d.done))
 
     pub down_more : {y row next : List ℤ} → i < n → y ≡ flat (map (down_cells m here) (from 0 w)) → row ≡ slot_vec q i
         → next ≡ bring_layer row here 0 (parted w 8 (part b i (w * 8))) (replicate 272 (pos 4000000)) → Down q w n m a (put cells (i * size) size y) next (i + 1)
@@ -326,7 +324,7 @@ module _ {q : Campaign} {w n m : ℕ} {b : List ℕ} {a : Arcs} (s : Setting q w
     pub half_count : length x ≡ suc n * size
     half_count = ap length (half ∙ half_is) ∙ length_rows (half_block q w a) size block_long (from 0 (suc n)) ∙ ap (λ (k : ℕ). k * size) (length_from 0 (suc n))
 
-    pub last_room : (n * size + size ≤ length x) × (n * size + size ≤ 14000)
+    pub last_room : n * size + size ≤ length x
     last_room = last_place half_count
 
     last_block : part x n size ≡ half_block q w a n
@@ -357,11 +355,11 @@ module _ {q : Campaign} {w n m : ℕ} {b : List ℕ} {a : Arcs} (s : Setting q w
       pub up_here : i < n
       up_here = u.bytes.done
 
-      pub up_byte_place : (i * (w * 8) + w * 8 ≤ length arcs) × (i * (w * 8) + w * 8 ≤ 3072)
-      up_byte_place = (back_place u.bytes, (byte_place i u.bytes.done).1)
+      pub up_byte_place : i * (w * 8) + w * 8 ≤ length arcs
+      up_byte_place = back_place u.bytes
 
-      pub up_place : (i * size + size ≤ length cells) × (i * size + size ≤ 14000)
-      up_place = let p = place_in (suc n) size i (omega (arith, u.bytes.done)) in (omega (arith, u.long), omega (arith, few_cells))
+      pub up_place : i * size + size ≤ length cells
+      up_place = omega (arith, u.long, place_in (suc n) size i (omega (arith, u.bytes.done)))
 
       pub up_right : Row next
       up_right = rw u.row (up_row q s.small w a s.whole (suc i))
@@ -497,11 +495,11 @@ stand_on {q} {w} {n} {m} {b} {b'} {a} {a'} s s' r h e =
     ∙ sym (half_first s' (suc r) (omega arith))
 
 -- so what stands behind a round is where the next begins
-pub stands_next : {p : Problem} {w r : ℕ} {arcs arcs' : List ℕ} {cells cells' : List ℤ} → Ready p w → length p.sets ≡ 24 → Formed (campaign_of p) w arcs → Formed (campaign_of p) w arcs' → r < p.n
-    → cells ≡ half_cells (campaign_of p) w (down_numbers (campaign_of p) (arcs_in (campaign_of p) w arcs)) → Fell p.n (w * 8) (w * (4 * p.m + 3)) arcs arcs' cells cells' false r → Standing (campaign_of p) w r arcs' cells'
+pub stands_next : {p : Problem} {w r : ℕ} {arcs arcs' : List ℕ} {cells cells' : List ℤ} → Ready p w → length p.sets ≡ 24 → Formed (campaign_of p) w arcs → Formed (campaign_of p) w arcs' → r < p.slots
+    → cells ≡ half_cells (campaign_of p) w (down_numbers (campaign_of p) (arcs_in (campaign_of p) w arcs)) → Fell p.slots (w * 8) (w * (4 * p.rules + 3)) arcs arcs' cells cells' false r → Standing (campaign_of p) w r arcs' cells'
 stands_next {p} {w} {r} {arcs} {arcs'} {cells} {cells'} ready e f f' h half fell =
     let all = half_cells (campaign_of p) w (down_numbers (campaign_of p) (arcs_in (campaign_of p) w arcs')) in
-    let k = suc r * (w * (4 * p.m + 3)) in
+    let k = suc r * (w * (4 * p.rules + 3)) in
     let count = ap (λ (m : ℕ). suc r * (w * (4 * m + 3))) (rules_long p) in
     record {
       most = omega (arith, slots_are ready e);
@@ -510,13 +508,13 @@ stands_next {p} {w} {r} {arcs} {arcs'} {cells} {cells'} ready e f f' h half fell
     }
 
 -- all of them stand
-pub stands_whole : {p : Problem} {w from : ℕ} {arcs : List ℕ} {cells : List ℤ} → Ready p w → length p.sets ≡ 24 → Formed (campaign_of p) w arcs → length cells ≡ cells_need (campaign_of p) w → Standing (campaign_of p) w from arcs cells → p.n ≤ from
+pub stands_whole : {p : Problem} {w from : ℕ} {arcs : List ℕ} {cells : List ℤ} → Ready p w → length p.sets ≡ 24 → Formed (campaign_of p) w arcs → length cells ≡ cells_need (campaign_of p) w → Standing (campaign_of p) w from arcs cells → p.slots ≤ from
     → cells ≡ half_cells (campaign_of p) w (down_numbers (campaign_of p) (arcs_in (campaign_of p) w arcs))
 stands_whole {p} {w} {from} {arcs} {cells} ready e f long st h =
     let s = setting ready f e in
     let some = (right version1 p ready.right).head.some in
     let r = standing_is ready e st (omega arith) in
-    let o : from ≡ p.n = omega (arith, r.0) in
+    let o : from ≡ p.slots = omega (arith, r.0) in
     let all = half_cells (campaign_of p) w (down_numbers (campaign_of p) (arcs_in (campaign_of p) w arcs)) in
-    let k = suc p.n * (w * (4 * p.m + 3)) in
+    let k = suc p.slots * (w * (4 * p.rules + 3)) in
     sym (take_all k cells (omega (arith, need_is ready e))) ∙ (rw o at r.1) ∙ take_all k all (omega (arith, half_count s {x = all} refl))

@@ -1,5 +1,5 @@
 -- When may the passes run, and what stands in the cells between them?
-use Rattle.std.specs.Prelude.{◌≡◌, List, map, Bool, true, false, ℕ, suc, ◌*◌, ◌≤◌, ◌<◌, length, get_or, take, replicate, ℤ, pos}
+use Rattle.std.specs.Prelude.{◌≡◌, List, map, Bool, true, false, ℕ, suc, ◌+◌, ◌*◌, ◌≤◌, ◌<◌, length, get_or, take, replicate, ℤ, pos}
 use Rattle.laws.specs.Z.{Within}
 use Rattle.laws.specs.Lists.{flat, from, padded}
 use Rattle.meaning.specs.Plan.{Campaign, slots}
@@ -15,6 +15,15 @@ pub record Ready (p : Problem) (w : ℕ) : Type 0 where
   pub right : fault_in version1 p ≡ 0
   pub some : 1 ≤ w
   pub few : w ≤ 16
+
+-- n slots, m rules and w nodes to a layer, and as many bytes of arcs and cells as they need
+pub record Sized (n m w bytes numbers : ℕ) : Type 0 where
+  pub slots : n ≤ 24
+  pub rules : m ≤ 8
+  pub width : w ≤ 16
+  pub arcs : bytes ≡ n * (w * 8)
+  pub cells : numbers ≡ n * (w * (4 * m + 3)) + w * (4 * m + 3)
+  pub few : numbers ≤ 14000
 
 -- at most eight rules, each bound in its range
 pub record Bounding (m : ℕ) (lbs ubs : List ℤ) : Type 0 where

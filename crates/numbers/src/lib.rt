@@ -10,64 +10,73 @@ ghost use Rattle.problem.specs.Held.{campaign_of};
 ghost use Rattle.lent.specs.Wide.{laid};
 ghost use Rattle.lent.specs.Vec.{row_vec, test_of};
 ghost use Rattle.slot.specs.Tables.{leasts_in, mosts_in, Tabled};
-ghost use Rattle.numbers.specs.Whole.{Ready, Bounding, limit_lanes, Formed, half_cells, Standing, Fell};
+ghost use Rattle.numbers.specs.Whole.{Ready, Sized, Bounding, limit_lanes, Formed, half_cells, Standing, Fell};
 
-use lanes::FAR;
-use problem::Problem;
-use slot::{LEASTS, MOSTS};
+use lanes::{FAR, LANES, ROW};
+use problem::{Problem, RULES, STEPS};
+use slot::{LEASTS, MOSTS, SHARES};
+
+// Where the limit stands of what nothing limits.
+const REACH: i32 = 2000000;
 
 // The row of a layer with one node, all of whose numbers are zero: the source going down, the sink going up.
-pub fn one_node(m: usize) -> [i32; 272]
+pub fn one_node(m: usize) -> [i32; ROW]
     ensures { result ≡ row_vec (some (replicate m (pos 0, pos 0), pos 0) ∷ []) }
 {
-    let mut row = [FAR; 272];
-    lanes::put_lanes(&mut row, 0, [0; 17]);
+    let mut row = [FAR; ROW];
+    lanes::put_lanes(&mut row, 0, [0; LANES]);
     row
 }
 
 // The limit of a round: the bounds of the rules and the ceiling; the lanes that no rule has are out of reach.
-fn limit_of<'a>(m: usize, coefs: &'a [i32; 232], ceiling: i32) -> [i32; 17]
+fn limit_of(m: usize, coefs: &[i32; 232], ceiling: i32) -> [i32; LANES]
     requires { Bounding m (leasts_in coefs.now) (mosts_in coefs.now) × (length coefs.now ≡ 232) }
     ensures { result ≡ limit_lanes m (leasts_in coefs.now) (mosts_in coefs.now) ceiling }
 {
-    let mut x = [2000000i32; 17];
-    let mut r: usize = 0;
-    while r < m {
-        let lb = coefs[LEASTS + r];
-        let ub = coefs[MOSTS + r];
-        x[r] = ub;
-        x[8 + r] = -lb;
-        r += 1;
+    let mut limit = [REACH; LANES];
+    for r in 0..m {
+        limit[r] = coefs[MOSTS + r];
+        limit[RULES + r] = -coefs[LEASTS + r];
     }
-    x[16] = ceiling;
-    x
+    limit[LANES - 1] = ceiling;
+    limit
 }
 
-// The down numbers of all nodes, layer by layer, into the cells; the up numbers stand at zero there. The layers up to `from` stand
-// already, unless it is the first.
-fn downs<'a>(
+// The down numbers of all nodes, layer by layer, into the cells, with the up numbers at zero. If `from` is not 0, the cells of layers 0 to `from`
+// hold their down numbers already.
+fn downs(
     p: Problem,
-    coefs: &'a [i32; 232],
-    values: &'a [u16; 216],
+    coefs: &[i32; 232],
+    values: &[u16; 216],
     w: usize,
     from: usize,
     arcs: &[u8],
     cells: &mut [i32],
 )
-    requires { Ready p w × Tabled p coefs.now values.now × Formed (campaign_of p) w arcs.now × (length cells.old ≡ cells_need (campaign_of p) w) × Standing (campaign_of p) w from arcs.now cells.old }
+    requires sized { Sized p.slots p.rules w (length arcs.now) (length cells.old) }
+    requires from { from ≤ p.slots }
+    requires place { from * (w * (4 * p.rules + 3)) + w * (4 * p.rules + 3) ≤ length cells.old }
+    requires ready { Ready p w × Tabled p coefs.now values.now × Formed (campaign_of p) w arcs.now × (length cells.old ≡ cells_need (campaign_of p) w) × Standing (campaign_of p) w from arcs.now cells.old }
     ensures { cells.new ≡ half_cells (campaign_of p) w (down_numbers (campaign_of p) (arcs_in (campaign_of p) w arcs.now)) }
 {
-    let bytes = w * 8;
-    let size = w * (4 * p.m + 3);
-    let mut here = one_node(p.m);
-    let mut spare = [FAR; 272];
-    let mut row = [0i32; 72];
-    if 0 < from {
-        rows::take_downs(p.m, w, &cells[from * size..from * size + size], &mut here);
+    if from == p.slots {
+        return;
     }
-    let mut i = from;
-    while i < p.n {
-        rows::put_downs(p.m, w, &here, &mut cells[i * size..i * size + size]);
+    let bytes = w * STEPS;
+    let size = w * (4 * p.rules + 3);
+    let mut here = one_node(p.rules);
+    let mut spare = [FAR; ROW];
+    let mut row = [0; SHARES];
+    if 0 < from {
+        rows::take_downs(
+            p.rules,
+            w,
+            &cells[from * size..from * size + size],
+            &mut here,
+        );
+    }
+    for i in from..p.slots {
+        rows::put_downs(p.rules, w, &here, &mut cells[i * size..i * size + size]);
         slot::slot_row(coefs, values, i, &mut row);
         rows::next_down(
             w,
@@ -76,49 +85,58 @@ fn downs<'a>(
             &arcs[i * bytes..i * bytes + bytes],
             &mut spare,
         );
-        i += 1;
     }
-    rows::put_downs(p.m, w, &here, &mut cells[p.n * size..p.n * size + size]);
+    rows::put_downs(
+        p.rules,
+        w,
+        &here,
+        &mut cells[p.slots * size..p.slots * size + size],
+    );
 }
 
 // The up numbers of all nodes, the last layer first; the arcs that fail the test fall. Gives the first layer that lost an arc, n if
 // none did. If none did, or the test is free, the up numbers stand beside the down numbers in the cells; else the cells up to that
 // layer are as they were.
-fn ups<'a>(
+fn ups(
     p: Problem,
-    coefs: &'a [i32; 232],
-    values: &'a [u16; 216],
+    coefs: &[i32; 232],
+    values: &[u16; 216],
     w: usize,
     free: bool,
     ceiling: i32,
     arcs: &mut [u8],
     cells: &mut [i32],
 ) -> usize
-    requires { Ready p w × Tabled p coefs.now values.now × Within 2000000 ceiling × Formed (campaign_of p) w arcs.old × (cells.old ≡ half_cells (campaign_of p) w (down_numbers (campaign_of p) (arcs_in (campaign_of p) w arcs.old))) }
+    requires sized { Sized p.slots p.rules w (length arcs.old) (length cells.old) }
+    requires ready { Ready p w × Tabled p coefs.now values.now × Within 2000000 ceiling × Formed (campaign_of p) w arcs.old × (cells.old ≡ half_cells (campaign_of p) w (down_numbers (campaign_of p) (arcs_in (campaign_of p) w arcs.old))) }
     ensures arcs { arcs.new ≡ laid 8 w (drops (test_of free ceiling) (campaign_of p) (arcs_in (campaign_of p) w arcs.old)) }
-    ensures cells { (free ≡ true) ⊎ (result ≡ p.n) → cells.new ≡ all_cells (node_need (campaign_of p)) w (down_numbers (campaign_of p) (arcs_in (campaign_of p) w arcs.old)) (up_numbers (campaign_of p) (arcs_in (campaign_of p) w arcs.old)) }
-    ensures first { Fell p.n (w * 8) (w * (4 * p.m + 3)) arcs.old arcs.new cells.old cells.new free result }
+    ensures cells { (free ≡ true) ⊎ (result ≡ p.slots) → cells.new ≡ all_cells (node_need (campaign_of p)) w (down_numbers (campaign_of p) (arcs_in (campaign_of p) w arcs.old)) (up_numbers (campaign_of p) (arcs_in (campaign_of p) w arcs.old)) }
+    ensures first { Fell p.slots (w * 8) (w * (4 * p.rules + 3)) arcs.old arcs.new cells.old cells.new free result }
 {
-    let bytes = w * 8;
-    let size = w * (4 * p.m + 3);
-    let limit = limit_of(p.m, coefs, ceiling);
-    let mut next = one_node(p.m);
-    let mut spare = [FAR; 272];
-    let mut room = [FAR; 272];
-    let mut row = [0i32; 72];
-    rows::put_ups(p.m, w, &next, &mut cells[p.n * size..p.n * size + size]);
-    let mut first = p.n;
-    let mut left = p.n;
-    while 0 < left {
-        let i = left - 1;
+    let bytes = w * STEPS;
+    let size = w * (4 * p.rules + 3);
+    let limit = limit_of(p.rules, coefs, ceiling);
+    let mut next = one_node(p.rules);
+    let mut spare = [FAR; ROW];
+    let mut room = [FAR; ROW];
+    let mut row = [0; SHARES];
+    rows::put_ups(
+        p.rules,
+        w,
+        &next,
+        &mut cells[p.slots * size..p.slots * size + size],
+    );
+    // kept: n where no layer lost an arc, in place of an Option: the clause `fixed` of `round` says so
+    let mut first = p.slots;
+    for i in (0..p.slots).rev() {
         slot::slot_row(coefs, values, i, &mut row);
         if rows::next_up(
-            p.m,
+            p.rules,
             w,
             &row,
             &mut next,
             free,
-            first == p.n,
+            first == p.slots,
             &limit,
             &mut arcs[i * bytes..i * bytes + bytes],
             &mut cells[i * size..i * size + size],
@@ -127,18 +145,17 @@ fn ups<'a>(
         ) {
             first = i;
         }
-        left -= 1;
     }
     first
 }
 
 // A round: all numbers from the arcs present at its start, then the failing arcs fall together. Gives the first layer that lost an
-// arc, n if none did. The down numbers of the layers up to `from` stand in the cells already, unless it is the first layer; after it
-// those up to the layer that it gives, or all numbers.
-pub fn round<'a>(
+// arc, n if none did. If `from` is not 0, the cells of layers 0 to `from` hold their down numbers already; after it the cells up to the layer
+// that it gives hold theirs, or all cells all numbers.
+pub fn round(
     p: Problem,
-    coefs: &'a [i32; 232],
-    values: &'a [u16; 216],
+    coefs: &[i32; 232],
+    values: &[u16; 216],
     w: usize,
     from: usize,
     ceiling: i32,
@@ -147,22 +164,20 @@ pub fn round<'a>(
 ) -> usize
     requires { Ready p w × Tabled p coefs.now values.now × Within 2000000 ceiling × Formed (campaign_of p) w arcs.old × (length cells.old ≡ cells_need (campaign_of p) w) × Standing (campaign_of p) w from arcs.old cells.old }
     ensures arcs { arcs.new ≡ laid 8 w (drops (within ceiling) (campaign_of p) (arcs_in (campaign_of p) w arcs.old)) }
-    ensures fixed { result ≡ p.n → (arcs.new ≡ arcs.old) × (cells.new ≡ all_cells (node_need (campaign_of p)) w (down_numbers (campaign_of p) (arcs_in (campaign_of p) w arcs.old)) (up_numbers (campaign_of p) (arcs_in (campaign_of p) w arcs.old))) }
-    ensures stands { result < p.n → Formed (campaign_of p) w arcs.new → Standing (campaign_of p) w result arcs.new cells.new }
-    ensures long { (result ≤ p.n) × (length cells.new ≡ cells_need (campaign_of p) w) }
+    ensures fixed { result ≡ p.slots → (arcs.new ≡ arcs.old) × (cells.new ≡ all_cells (node_need (campaign_of p)) w (down_numbers (campaign_of p) (arcs_in (campaign_of p) w arcs.old)) (up_numbers (campaign_of p) (arcs_in (campaign_of p) w arcs.old))) }
+    ensures stands { result < p.slots → Formed (campaign_of p) w arcs.new → Standing (campaign_of p) w result arcs.new cells.new }
+    ensures long { (result ≤ p.slots) × (length cells.new ≡ cells_need (campaign_of p) w) }
 {
-    if from < p.n {
-        downs(p, coefs, values, w, from, arcs, cells);
-    }
+    downs(p, coefs, values, w, from, arcs, cells);
     ups(p, coefs, values, w, false, ceiling, arcs, cells)
 }
 
 // The closing sweep: every arc on no path falls; the cells hold the numbers, which the sweep changes for no node that is present.
-// The down numbers of the layers up to `from` stand there already, unless it is the first.
-pub fn sweep<'a>(
+// If `from` is not 0, the cells of layers 0 to `from` hold their down numbers already.
+pub fn sweep(
     p: Problem,
-    coefs: &'a [i32; 232],
-    values: &'a [u16; 216],
+    coefs: &[i32; 232],
+    values: &[u16; 216],
     w: usize,
     from: usize,
     arcs: &mut [u8],
@@ -172,8 +187,6 @@ pub fn sweep<'a>(
     ensures arcs { arcs.new ≡ laid 8 w (swept (campaign_of p) (arcs_in (campaign_of p) w arcs.old)) }
     ensures cells { cells.new ≡ all_cells (node_need (campaign_of p)) w (down_numbers (campaign_of p) (arcs_in (campaign_of p) w arcs.old)) (up_numbers (campaign_of p) (arcs_in (campaign_of p) w arcs.old)) }
 {
-    if from < p.n {
-        downs(p, coefs, values, w, from, arcs, cells);
-    }
+    downs(p, coefs, values, w, from, arcs, cells);
     ups(p, coefs, values, w, true, 0, arcs, cells);
 }

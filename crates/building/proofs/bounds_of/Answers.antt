@@ -1,40 +1,18 @@
 use mathlib.Core.Path.{refl}
 use native.Mathlib.Omega.{arith}
-use Rattle.building.proofs.Bounds.{bounded_low, bounded_more, bounded_end}
 use Rattle.rows.proofs.Cells.{turn_fits}
+use Rattle.numbers.proofs.Limit.{least_within}
+use Rattle.building.proofs.Bounds.{bounded_more, bounded_end}
 use Rattle.building.proofs.bounds_of.Goals as goal
 
 pub loop-r-init : goal.loop-r-init
-loop-r-init c = record { right = c.requires.0; low = omega arith; is = refl }
+loop-r-init c = record { is = refl }
 
-pub overflow_add-lb : goal.overflow_add-lb
-overflow_add-lb c = omega (arith, c.loop-r.invariant.right.few, c.loop-r-test.true)
-
-pub offset_bounds-coefs-r : goal.offset_bounds-coefs-r
-offset_bounds-coefs-r c = omega (arith, c.loop-r.invariant.right.few, c.loop-r-test.true)
-
-pub bounds-coefs-r : goal.bounds-coefs-r
-bounds-coefs-r c = omega (arith, c.loop-r.invariant.right.few, c.loop-r-test.true, c.requires.1)
-
-pub overflow_add-ub : goal.overflow_add-ub
-overflow_add-ub c = omega (arith, c.loop-r.invariant.right.few, c.loop-r-test.true)
-
-pub offset_bounds-coefs-r-in-loop-r : goal.offset_bounds-coefs-r-in-loop-r
-offset_bounds-coefs-r-in-loop-r c = omega (arith, c.loop-r.invariant.right.few, c.loop-r-test.true)
-
-pub bounds-coefs-r-in-loop-r : goal.bounds-coefs-r-in-loop-r
-bounds-coefs-r-in-loop-r c = omega (arith, c.loop-r.invariant.right.few, c.loop-r-test.true, c.requires.1)
-
-pub overflow_sub-s : goal.overflow_sub-s
-overflow_sub-s c =
-    let a = c.args in
-    turn_fits (bounded_low a.m a.coefs.now c.loop-r.invariant c.loop-r-test.true) tt
-
-pub bounds-s-r : goal.bounds-s-r
-bounds-s-r c = omega (arith, c.loop-r.invariant.right.few)
+pub overflow_sub-at : goal.overflow_sub-at
+overflow_sub-at c = turn_fits (least_within _ c.requires.0 c.loop-r-test.true) tt
 
 pub loop-r-preserved : goal.loop-r-preserved
-loop-r-preserved c = (let a = c.args in bounded_more a.m a.coefs.now) c.loop-r.invariant c.loop-r-test.true _ refl
+loop-r-preserved c = bounded_more _ _ c.requires.0 c.loop-r.invariant _ c.loop-r-test.true refl
 
 pub returns : goal.returns
-returns c = (let a = c.args in bounded_end a.m a.coefs.now) c.loop-r.invariant c.loop-r-test.false
+returns c = bounded_end _ _ c.requires.0 c.loop-r.invariant (omega arith)
