@@ -1,22 +1,20 @@
 -- What do the tests of a step say, and what are the totals behind it?
 use mathlib.Core.Path.{◌≡◌, refl, sym, ap, ◌∙◌}
 use mathlib.Core.List.{List, [], ◌∷◌}
-use mathlib.Core.Bool.{Bool, true, false, not, ◌&&◌, cond}
+use mathlib.Core.Bool.{Bool, true, false, not, ◌&&◌, cond, true≢false}
 use Prim.Native.Nat.{ℕ, ◌+◌, ◌*◌, ◌/◌, ◌^◌, ◌≤◌, ◌<◌}
-use native.Mathlib.Nat.{suc-mul, mul-le-mul_right, mod-lt}
-use native.Mathlib.Numerals.{add-one}
+use native.Mathlib.Nat.{mod-lt}
 use native.Mathlib.Omega.{arith}
-use borrow.Author.Tests.{lt-ltb, le-ltb}
 use lib.Dec.{T, leb}
 use lib.ListN.{length, get_or, take, drop}
-use lib.Seq.{paste}
 use lib.IntN.{ℤ, pos, ◌+ℤ◌, ◌-ℤ◌}
 use lib.Signed.{le_z, lt_z}
 use mir.Syntax.{w32}
 use mir.Val.{SFits}
-use mir.Facts.{to_z-of_z}
-use Rattle.laws.specs.Z.{Within, zarith, parts, dif, back, back_is, sum_within, widen, fits32}
-use Rattle.laws.proofs.Lists.{and_false, cond_first, cond_second}
+use Rattle.laws.specs.Z.{Within, zarith, parts, dif, back, back_is, widen, fits32}
+use Rattle.laws.specs.Lists.{every, from}
+use Rattle.laws.proofs.Lists.{cond_first, cond_second}
+use Rattle.laws.proofs.Left.{places_go, places_stop, places_end}
 use Rattle.laws.proofs.Each.{Each, each_take, each_drop}
 use Rattle.laws.proofs.Filled.{take_within}
 use Rattle.lanes.proofs.Laws.{length-zipped, zipped_at, each_sums}
@@ -25,12 +23,28 @@ use Rattle.slot.specs.Rows.{lane_of, lanes_of}
 use Rattle.slot.specs.Tables.{coefs_in, values_in}
 use Rattle.slot.proofs.Laid.{part_long, part_at}
 use Rattle.slot.proofs.Laws.{lane_within, lanes_long, lanes_at}
-use Rattle.step.specs.Steps.{totals_at, here_at, laying}
+use Rattle.step.specs.Steps.{totals_at, here_at}
 
 -- ---- one rule's test: the totals with its low up and its high up
 abbrev pub keeps_at : List ℤ → List ℤ → List ℤ → ℕ → List ℤ → ℕ → Bool
 keeps_at lb ub cells at totals r =
     le_z (get_or totals r (pos 0) +ℤ get_or cells (at + 4 * r + 3) (pos 0)) (get_or ub r (pos 0)) && le_z (get_or lb r (pos 0)) (get_or totals r (pos 0) +ℤ get_or cells (at + 4 * r + 4) (pos 0))
+
+-- ---- a flag that falls at the first rule that fails, and stays down: what it tells of the places below k
+abbrev pub Flagged : (ℕ → Bool) → ℕ → ℕ → Bool → Type 0
+Flagged p m k t = (t ≡ false → false ≡ every p (from 0 m)) × (t ≡ true → every p (from 0 m) ≡ every p (drop k (from 0 m)))
+
+module _ (p : ℕ → Bool) (m k : ℕ) where
+  pub flagged_falls : (t : Bool) → k < m → p k ≡ false → Flagged p m k t → Flagged p m (k + 1) false
+  flagged_falls true h e f = (λ _. places_stop p m k h e (f.1 refl), λ g. absurd (true≢false (sym g)))
+  flagged_falls false h e f = (λ _. f.0 refl, λ g. absurd (true≢false (sym g)))
+
+  pub flagged_stands : (t : Bool) → k < m → p k ≡ true → Flagged p m k t → Flagged p m (k + 1) t
+  flagged_stands t h e f = (f.0, λ g. places_go p m k h e (f.1 g))
+
+  pub flagged_ends : (t : Bool) → m ≤ k → Flagged p m k t → t ≡ every p (from 0 m)
+  flagged_ends true h f = places_end p m k h (f.1 refl)
+  flagged_ends false h f = f.0 refl
 
 -- what an operation makes of two i32, where that is one
 module _ (f : ℤ → ℤ → ℤ) {t x : ℤ} {m n k : ℕ} (h : Within m t) (l : Within n x) (w : Within k (f t x)) (a : T (leb m 2147483647)) (b : T (leb n 2147483647)) (c : T (leb k 2147483647)) where
@@ -51,30 +65,6 @@ le_not a b false e = omega (zarith, e)
 -- a difference in range
 pub less_within : {t x : ℤ} {m n : ℕ} → Within m t → Within n x → Within (m + n) (t -ℤ x)
 less_within {t} {x} h l = record { size = omega (arith, dif t x, parts t, parts x, parts (t -ℤ x), h.size, l.size) }
-
-module _ {t low high least most : ℤ} (h : Within 1000000 t) (l : Within 4000000 low) (g : Within 4000000 high) (a : SFits w32 least) (b : SFits w32 most) where
-  -- "any total at low up is above ub"
-  pub above : lt_z (back most) (back (back t +ℤ back low)) ≡ true → (le_z (t +ℤ low) most && le_z least (t +ℤ high)) ≡ false
-  above e =
-      let f : lt_z most (t +ℤ low) ≡ true = rw (to_z-of_z b, both_is ◌+ℤ◌ h l (sum_within h l) tt tt tt) at e in
-      let no : le_z (t +ℤ low) most ≡ false = omega (zarith, f) in
-      rw no refl
-
-  -- "any total at high up is below lb"
-  pub below : lt_z (back (back t +ℤ back high)) (back least) ≡ true → (le_z (t +ℤ low) most && le_z least (t +ℤ high)) ≡ false
-  below e =
-      let f : lt_z (t +ℤ high) least ≡ true = rw (to_z-of_z a, both_is ◌+ℤ◌ h g (sum_within h g) tt tt tt) at e in
-      let no : le_z least (t +ℤ high) ≡ false = omega (zarith, f) in
-      and_false (le_z (t +ℤ low) most) (le_z least (t +ℤ high)) no
-
-  -- neither
-  pub inside : lt_z (back most) (back (back t +ℤ back low)) ≡ false → lt_z (back (back t +ℤ back high)) (back least) ≡ false → (le_z (t +ℤ low) most && le_z least (t +ℤ high)) ≡ true
-  inside e f =
-      let p : lt_z most (t +ℤ low) ≡ false = rw (to_z-of_z b, both_is ◌+ℤ◌ h l (sum_within h l) tt tt tt) at e in
-      let q : lt_z (t +ℤ high) least ≡ false = rw (to_z-of_z a, both_is ◌+ℤ◌ h g (sum_within h g) tt tt tt) at f in
-      let yes : le_z (t +ℤ low) most ≡ true = omega (zarith, p) in
-      let and : le_z least (t +ℤ high) ≡ true = omega (zarith, q) in
-      rw (yes, and) refl
 
 -- ---- the totals behind a step
 module _ (coefs : List ℤ) (values : List ℕ) (i v : ℕ) (trail : List ℤ) where
@@ -134,16 +124,3 @@ goes_not t a b e = (sym e, sym (cond_second t a b e))
 
 pub goes_so : {A : Type 0} (t : Bool) (a b : A) → t ≡ true → (true ≡ t) × (a ≡ cond t a b)
 goes_so t a b e = (sym e, sym (cond_first t a b e))
-
--- ---- a plan that comes by
--- the place of the next one, below the room for all
-pub put_place : (seen cap n : ℕ) → seen < cap → seen * n + n ≤ cap * n
-put_place seen cap n h = omega (arith, mul-le-mul_right n h, suc-mul seen n)
-
--- laid where there is room, or only counted
-module _ (n cap : ℕ) (page : List ℕ) (seen : ℕ) (plan : List ℕ) {later : List ℕ} where
-  pub put_laid : seen < cap → later ≡ paste page (seen * n) plan n → record { page = later; seen = seen + 1 } ≡ laying n cap (record { page = page; seen = seen }) plan
-  put_laid h e = rw (lt-ltb seen cap h, le-ltb cap seen (omega arith), e, add-one) refl
-
-  pub put_full : seen ≤ cap → cap ≤ seen → later ≡ page → record { page = later; seen = seen + 1 } ≡ laying n cap (record { page = page; seen = seen }) plan
-  put_full k h e = rw (le-ltb seen cap h, le-ltb cap seen k, e, add-one) refl

@@ -106,7 +106,7 @@ module _ {p : Problem} {w : ℕ} {arcs : List ℕ} (r : Ready p w) (sets : lengt
     same_cells e =
         let q = campaign_of p in
         let k = node_need q in
-        let z = suc p.n * (w * (4 * p.m + 3)) in
+        let z = suc p.slots * (w * (4 * p.rules + 3)) in
         e ∙ sym (padded_full z (pos 0) (all_cells k w (down_numbers q before) (up_numbers q before)) (cells_count (setting r f sets)))
         ∙ ap (padded z (pos 0)) (sym (single_cells k w q before)) ∙ sym (swept_cells q w z (single before) (single_source before))
         ∙ ap (number_cells q w z) (single_swept q before) ∙ sym (wide_cells q 8 w z (swept q before) shaped.sized) ∙ ap (number_cells q w z) (sym behind)

@@ -37,19 +37,6 @@ abbrev pub lay_all : ℕ → ℕ → Laid → List (List ℕ) → Laid
 lay_all n cap s [] = s
 lay_all n cap s (p ∷ ps) = lay_all n cap (laying n cap s p) ps
 
--- ---- the sizes of a walk: n, m, w, and how many plans the page has room for
-abbrev pub slots_in : List ℕ → ℕ
-slots_in x = get_or x 0 0
-
-abbrev pub rules_in : List ℕ → ℕ
-rules_in x = get_or x 1 0
-
-abbrev pub width_in : List ℕ → ℕ
-width_in x = get_or x 2 0
-
-abbrev pub room_in : List ℕ → ℕ
-room_in x = get_or x 3 0
-
 -- ---- a step
 -- where the steps begin: at the start's own
 abbrev pub first_of : Bool → List ℕ → ℕ

@@ -9,7 +9,7 @@ use lib.Seq.{get_or-drop, set-get_or}
 use Rattle.slot.specs.Tables.{coefs_in, weights_in, leasts_in, mosts_in, values_in, sets_in}
 use Rattle.step.specs.Steps.{totals_at, budget_at, here_at, goes_on, trod}
 use Rattle.step.proofs.Steps.{here_long, here_within}
-use Rattle.walk.specs.Beginnings.{slots_in, rules_in, width_in, room_in, first_of, Walkable, Finds}
+use Rattle.walk.specs.Beginnings.{first_of, Walkable, Finds}
 use mathlib.Core.List.{List}
 use lib.IntN.{ℤ, pos}
 use Rattle.laws.specs.Z.{Within, mul_within}
@@ -20,7 +20,7 @@ use Rattle.walk.proofs.Trail.{level_totals, level_budget, trod_totals, trod_budg
 use Rattle.walk.proofs.Turns.{sink_leaf, going_begins, going_ends, going_full}
 use Rattle.walk.proofs.Paces.{Pace, Stage, same_pace, byte, pace_none, pace_shut, pace_on, pace_last}
 use Rattle.walk.proofs.+node.Goals as goal
-use Rattle.walk.proofs.+node.Goals.{At-loop-v, Joined-own, Start, else-is_arc, else-is_arc-2, else-own, then-is_arc+else-goes, then-is_arc+then-goes+else-left-ne1, then-is_arc+then-goes+then-left-ne1, then-is_arc-2+else-cap-t+else-goes-2, then-is_arc-2+else-cap-t+then-goes-2+else-left-eq1, then-is_arc-2+else-cap-t+then-goes-2+then-left-eq1, then-own+else-v-ge8}
+use Rattle.walk.proofs.+node.Goals.{At-loop-v, Joined-own, Start, else-is_arc, else-is_arc-2, else-own, then-is_arc+else-goes, then-is_arc+then-goes+else-left-ne1, then-is_arc+then-goes+then-left-ne1, then-is_arc-2+else-room-count+else-goes-2, then-is_arc-2+else-room-count+then-goes-2+else-left-eq1, then-is_arc-2+else-room-count+then-goes-2+then-left-eq1, then-own+else-v-ge-STEPS}
 
 -- a byte that leads to a node is not zero
 arc_some : {b c : ℕ} {r : Bool} → b ≡ c → r ≡ not (eqb b 0) → r ≡ true → 0 < c
@@ -40,16 +40,16 @@ not_own true v pl i h =
 -- what holds at entry
 module _ (t : ℕ) (x : Start t) where
   abbrev n : ℕ
-  n = slots_in x.args.sizes.now
+  n = x.args.sizes.now.slots
 
   abbrev m : ℕ
-  m = rules_in x.args.sizes.now
+  m = x.args.sizes.now.rules
 
   abbrev w : ℕ
-  w = width_in x.args.sizes.now
+  w = x.args.sizes.now.width
 
   abbrev cap : ℕ
-  cap = room_in x.args.sizes.now
+  cap = x.args.sizes.now.room
 
   abbrev i : ℕ
   i = n - x.args.left
@@ -98,12 +98,12 @@ module _ (t : ℕ) (x : Start t) where
   begins : Here tr pl pg x.args.seen (first_of x.args.own (drop i pl))
   begins = record {
     page_long = refl;
-    plan_long = x.requires.13;
-    trail_long = x.requires.12;
+    plan_long = x.requires.12;
+    trail_long = x.requires.11;
     begun = refl;
     under = refl;
     few = x.requires.8;
-    goes = going_begins n m w (sets_in vs) (weights_in cs) (leasts_in cs) (mosts_in cs) (coefs_in cs) (values_in vs) bs ks x.args.own i x.args.j (totals_at i tr) (budget_at i tr) pl cap pg x.args.seen g under (totals_long i (omega (arith, under, g.slots_few)) tr x.requires.12) x.requires.13 _ refl;
+    goes = going_begins n m w (sets_in vs) (weights_in cs) (leasts_in cs) (mosts_in cs) (coefs_in cs) (values_in vs) bs ks x.args.own i x.args.j (totals_at i tr) (budget_at i tr) pl cap pg x.args.seen g under (totals_long i (omega (arith, under, g.slots_few)) tr x.requires.11) x.requires.12 _ refl;
   }
 
   own_begins : x.args.own ≡ true → (v : ℕ) → v ≡ get_or pl i 0 → Here tr pl pg x.args.seen v
@@ -130,13 +130,13 @@ module _ (t : ℕ) (x : Start t) where
       g.counted,
       rw (level_totals i trail tr p.under) (each_more (Within (7001 * i)) (Within 200000) (λ z k. record { size = omega (arith, few24, k.size) }) (totals_at i tr) x.requires.4),
       rw (level_budget i trail tr p.under) (record { size = omega (arith, few24, x.requires.5.size) }),
+      x.requires.9,
       x.requires.10,
-      x.requires.11,
       p.trail_long,
     )
 
     eight : length (here_at cs vs i v trail) ≡ 8
-    eight = here_long cs vs i v trail few24 x.requires.10 x.requires.11 p.trail_long
+    eight = here_long cs vs i v trail few24 x.requires.9 x.requires.10 p.trail_long
 
     -- the level behind the step
     next_totals : Each (Within (7001 * suc i)) (totals_at (suc i) (trod cs vs i v trail))
@@ -178,84 +178,83 @@ module _ (t : ℕ) (x : Start t) where
         → Finds n m w (sets_in vs) (weights_in cs) (leasts_in cs) (mosts_in cs) (coefs_in cs) (values_in vs) bs ks true (suc i) (byte_of v - 1) (totals_at (suc i) (trod cs vs i v tr)) (budget_at (suc i) (trod cs vs i v tr)) pl cap pg x.args.seen page₁ t₁
         → Here trail₁ plan₁ page₁ t₁ (v + 1)
     own_on trail₁ plan₁ page₁ t₁ tl tu p24 pb long few found =
-        pace_on n m w cap cs vs bs ks x.args.own i x.args.j tr pl pg x.args.seen g under x.requires.3 x.requires.10 x.requires.11 x.requires.12 hv (own_begins o v e) some on true (mine x.args.own o) (λ h. refl) trail₁ plan₁ page₁ t₁ tl tu p24 (pb ∙ ap (take (suc i)) (sym unwritten)) long few (rw unwritten found)
+        pace_on n m w cap cs vs bs ks x.args.own i x.args.j tr pl pg x.args.seen g under x.requires.3 x.requires.9 x.requires.10 x.requires.11 hv (own_begins o v e) some on true (mine x.args.own o) (λ h. refl) trail₁ plan₁ page₁ t₁ tl tu p24 (pb ∙ ap (take (suc i)) (sym unwritten)) long few (rw unwritten found)
 
     own_last : suc i ≡ n → Here (trod cs vs i v tr) pl pg x.args.seen (v + 1)
     own_last last =
-        own_on (trod cs vs i v tr) pl pg x.args.seen (next_long hv some (own_begins o v e)) refl x.requires.13 refl refl x.requires.8
+        own_on (trod cs vs i v tr) pl pg x.args.seen (next_long hv some (own_begins o v e)) refl x.requires.12 refl refl x.requires.8
         (sink_leaf n m w (sets_in vs) (weights_in cs) (leasts_in cs) (mosts_in cs) (coefs_in cs) (values_in vs) bs ks true (suc i) (byte_of v - 1) (totals_at (suc i) (trod cs vs i v tr)) (budget_at (suc i) (trod cs vs i v tr)) pl cap pg x.args.seen g last pg x.args.seen refl)
 
 -- where the loop begins
 entered : (t : ℕ) (k : Joined-own t) → let x = (goal.at.Joined-own t k).Start in
-    Stage (n t x) (m t x) (w t x) (cap t x) (cs t x) (vs t x) (bs t x) (ks t x) k.args.own (i t x) k.args.j (tr t x) (pl t x) (pg t x) k.args.seen k.if-own.trail k.if-own.plan k.if-own.page k.if-own.t k.if-own.v
+    Stage (n t x) (m t x) (w t x) (cap t x) (cs t x) (vs t x) (bs t x) (ks t x) k.args.own (i t x) k.args.j (tr t x) (pl t x) (pg t x) k.args.seen k.if-own.trail k.if-own.plan k.if-own.page k.if-own.count k.if-own.first
 entered t k =
     let x = (goal.at.Joined-own t k).Start in
     elim k.if-own.branch [
-      | then-own+else-v-ge8 y ↦ let o = y.if-own.true in
-          let e = y.step-v.ensures in
-          let hv : y.step-v.result < 8 = omega (arith, y.if-v-ge8.false) in
-          let p = own_begins t x o _ e in
+      | then-own+else-v-ge-STEPS y ↦ let o = y.if-own.true in
+          let hv : get_or (pl t x) (i t x) 0 < 8 = omega (arith, y.if-v-ge-STEPS.false) in
+          let p = own_begins t x o _ refl in
           let bytes = y.byte_at-b.ensures in
-          let past : k.args.own ≡ true → get_or (pl t x) (i t x) 0 < k.if-own.v = λ h. omega (arith, e, y.v-is) in
+          let past : k.args.own ≡ true → get_or (pl t x) (i t x) 0 < k.if-own.first = λ h. omega (arith, y.first-is) in
           elim y.if-is_arc.branch [
             | then-is_arc+then-goes+then-left-ne1 z ↦ let some = arc_some bytes y.is_arc.ensures z.if-is_arc.true in
-                let at = z.child_at.ensures in
+                let at = z.child_at-child.ensures in
                 let on = rw (at, bytes) at (sym z.goes.ensures.value ∙ z.if-goes.true) in
                 let one = one_less (n t x) k.args.left k.requires.2 (λ h. omega (arith, k.requires.1)) in
                 let T = rw (sym z.goes.ensures.value ∙ z.if-goes.true) at z.goes.ensures.trail in
-                let call = z.node-t in (
-                  same_pace (n t x) (m t x) (w t x) (cap t x) (cs t x) (vs t x) (bs t x) (ks t x) k.args.own (i t x) k.args.j (tr t x) (pl t x) (pg t x) k.args.seen (y.trail-is ∙ z.trail-is) (y.plan-is ∙ z.plan-is) (y.page-is ∙ z.page-is) (y.t-is ∙ z.t-is) y.v-is
-                      (own_on t x o _ e hv some on _ _ _ _ call.ensures.long.1 (rw (one, T) at call.ensures.trodden) call.ensures.long.0 (rw one at call.ensures.begins) call.auto.page call.ensures.few (rw (one, bytes, T) at call.ensures.found)),
+                let call = z.node-count in (
+                  same_pace (n t x) (m t x) (w t x) (cap t x) (cs t x) (vs t x) (bs t x) (ks t x) k.args.own (i t x) k.args.j (tr t x) (pl t x) (pg t x) k.args.seen (y.trail-is ∙ z.trail-is) (y.plan-is ∙ z.plan-is) (y.page-is ∙ z.page-is) (y.count-is ∙ z.count-is) y.first-is
+                      (own_on t x o _ refl hv some on _ _ _ _ call.ensures.long.1 (rw (one, T) at call.ensures.trodden) call.ensures.long.0 (rw one at call.ensures.begins) call.auto.page call.ensures.few (rw (one, bytes, T) at call.ensures.found)),
                   past,
                 )
             | then-is_arc+then-goes+else-left-ne1 z ↦ let some = arc_some bytes y.is_arc.ensures z.if-is_arc.true in
-                let on = rw (z.child_at.ensures, bytes) at (sym z.goes.ensures.value ∙ z.if-goes.true) in
+                let on = rw (z.child_at-child.ensures, bytes) at (sym z.goes.ensures.value ∙ z.if-goes.true) in
                 let T = rw (sym z.goes.ensures.value ∙ z.if-goes.true) at z.goes.ensures.trail in
-                (same_pace (n t x) (m t x) (w t x) (cap t x) (cs t x) (vs t x) (bs t x) (ks t x) k.args.own (i t x) k.args.j (tr t x) (pl t x) (pg t x) k.args.seen (y.trail-is ∙ z.trail-is ∙ T) (y.plan-is ∙ z.plan-is) (y.page-is ∙ z.page-is) (y.t-is ∙ z.t-is) y.v-is (own_last t x o _ e hv some on (omega (arith, z.if-left-ne1.false, k.requires.2))), past)
+                (same_pace (n t x) (m t x) (w t x) (cap t x) (cs t x) (vs t x) (bs t x) (ks t x) k.args.own (i t x) k.args.j (tr t x) (pl t x) (pg t x) k.args.seen (y.trail-is ∙ z.trail-is ∙ T) (y.plan-is ∙ z.plan-is) (y.page-is ∙ z.page-is) (y.count-is ∙ z.count-is) y.first-is (own_last t x o _ refl hv some on (omega (arith, z.if-left-ne1.false, k.requires.2))), past)
             | then-is_arc+else-goes z ↦ let some = arc_some bytes y.is_arc.ensures z.if-is_arc.true in
-                let off = rw (z.child_at.ensures, bytes) at (sym z.goes.ensures.value ∙ z.if-goes.false) in
+                let off = rw (z.child_at-child.ensures, bytes) at (sym z.goes.ensures.value ∙ z.if-goes.false) in
                 let T = rw (sym z.goes.ensures.value ∙ z.if-goes.false) at z.goes.ensures.trail in
-                (same_pace (n t x) (m t x) (w t x) (cap t x) (cs t x) (vs t x) (bs t x) (ks t x) k.args.own (i t x) k.args.j (tr t x) (pl t x) (pg t x) k.args.seen (y.trail-is ∙ z.trail-is ∙ T) (y.plan-is ∙ z.plan-is) (y.page-is ∙ z.page-is) (y.t-is ∙ z.t-is) y.v-is (pace_shut (n t x) (m t x) (w t x) (cap t x) (cs t x) (vs t x) (bs t x) (ks t x) k.args.own (i t x) k.args.j (tr t x) (pl t x) (pg t x) k.args.seen (g t x) (under t x) k.requires.3 k.requires.10 k.requires.11 k.requires.12 hv p some off), past)
-            | else-is_arc z ↦ (same_pace (n t x) (m t x) (w t x) (cap t x) (cs t x) (vs t x) (bs t x) (ks t x) k.args.own (i t x) k.args.j (tr t x) (pl t x) (pg t x) k.args.seen (y.trail-is ∙ z.trail-is) (y.plan-is ∙ z.plan-is) (y.page-is ∙ z.page-is) (y.t-is ∙ z.t-is) y.v-is (pace_none (n t x) (m t x) (w t x) (cap t x) (cs t x) (vs t x) (bs t x) (ks t x) k.args.own (i t x) k.args.j (tr t x) (pl t x) (pg t x) k.args.seen (g t x) (under t x) k.requires.3 k.requires.10 k.requires.11 k.requires.12 hv p (rw bytes at (sym y.is_arc.ensures ∙ z.if-is_arc.false))), past)
+                (same_pace (n t x) (m t x) (w t x) (cap t x) (cs t x) (vs t x) (bs t x) (ks t x) k.args.own (i t x) k.args.j (tr t x) (pl t x) (pg t x) k.args.seen (y.trail-is ∙ z.trail-is ∙ T) (y.plan-is ∙ z.plan-is) (y.page-is ∙ z.page-is) (y.count-is ∙ z.count-is) y.first-is (pace_shut (n t x) (m t x) (w t x) (cap t x) (cs t x) (vs t x) (bs t x) (ks t x) k.args.own (i t x) k.args.j (tr t x) (pl t x) (pg t x) k.args.seen (g t x) (under t x) k.requires.3 k.requires.9 k.requires.10 k.requires.11 hv p some off), past)
+            | else-is_arc z ↦ (same_pace (n t x) (m t x) (w t x) (cap t x) (cs t x) (vs t x) (bs t x) (ks t x) k.args.own (i t x) k.args.j (tr t x) (pl t x) (pg t x) k.args.seen (y.trail-is ∙ z.trail-is) (y.plan-is ∙ z.plan-is) (y.page-is ∙ z.page-is) (y.count-is ∙ z.count-is) y.first-is (pace_none (n t x) (m t x) (w t x) (cap t x) (cs t x) (vs t x) (bs t x) (ks t x) k.args.own (i t x) k.args.j (tr t x) (pl t x) (pg t x) k.args.seen (g t x) (under t x) k.requires.3 k.requires.9 k.requires.10 k.requires.11 hv p (rw bytes at (sym y.is_arc.ensures ∙ z.if-is_arc.false))), past)
           ]
-      | else-own y ↦ (same_pace (n t x) (m t x) (w t x) (cap t x) (cs t x) (vs t x) (bs t x) (ks t x) k.args.own (i t x) k.args.j (tr t x) (pl t x) (pg t x) k.args.seen y.trail-is y.plan-is y.page-is y.t-is y.v-is (free_begins t x y.if-own.false), (λ h. absurd (true≢false (sym h ∙ y.if-own.false))))
+      | else-own y ↦ (same_pace (n t x) (m t x) (w t x) (cap t x) (cs t x) (vs t x) (bs t x) (ks t x) k.args.own (i t x) k.args.j (tr t x) (pl t x) (pg t x) k.args.seen y.trail-is y.plan-is y.page-is y.count-is y.first-is (free_begins t x y.if-own.false), (λ h. absurd (true≢false (sym h ∙ y.if-own.false))))
     ]
 
 -- where a turn of the loop begins
 stands : (t : ℕ) (k : At-loop-v t) → let x = (goal.at.At-loop-v t k).Start in
-    Stage (n t x) (m t x) (w t x) (cap t x) (cs t x) (vs t x) (bs t x) (ks t x) k.args.own (i t x) k.args.j (tr t x) (pl t x) (pg t x) k.args.seen k.loop-v.trail k.loop-v.plan k.loop-v.page k.loop-v.t k.loop-v.v
-stands t k = let x = (goal.at.At-loop-v t k).Start in k.loop-v.invariant (tr t x) (pl t x) (pg t x) k.args.seen k.requires.12 (entered t (goal.at.At-loop-v t k).Joined-own)
+    Stage (n t x) (m t x) (w t x) (cap t x) (cs t x) (vs t x) (bs t x) (ks t x) k.args.own (i t x) k.args.j (tr t x) (pl t x) (pg t x) k.args.seen k.loop-v.trail k.loop-v.plan k.loop-v.page k.loop-v.count k.loop-v.v
+stands t k = let x = (goal.at.At-loop-v t k).Start in k.loop-v.invariant (tr t x) (pl t x) (pg t x) k.args.seen k.requires.11 (entered t (goal.at.At-loop-v t k).Joined-own)
 
-pub returns-then-v-ge8 : goal.returns-then-v-ge8
-returns-then-v-ge8 t c =
-    let x = (goal.at.returns-then-v-ge8 t c).Start in
-    record { found = going_ends (n t x) (m t x) (w t x) (sets_in (vs t x)) (weights_in (cs t x)) (leasts_in (cs t x)) (mosts_in (cs t x)) (coefs_in (cs t x)) (values_in (vs t x)) (bs t x) (ks t x) c.args.own (i t x) c.args.j (totals_at (i t x) (tr t x)) (budget_at (i t x) (tr t x)) (pl t x) (cap t x) (pg t x) c.args.seen (pg t x) c.args.seen _ c.if-v-ge8.true (own_begins t x c.if-own.true _ c.step-v.ensures).goes; begins = refl; trodden = refl; long = (c.requires.13, c.requires.12); few = c.requires.8 }
+pub returns-then-v-ge-STEPS : goal.returns-then-v-ge-STEPS
+returns-then-v-ge-STEPS t c =
+    let x = (goal.at.returns-then-v-ge-STEPS t c).Start in
+    record { found = going_ends (n t x) (m t x) (w t x) (sets_in (vs t x)) (weights_in (cs t x)) (leasts_in (cs t x)) (mosts_in (cs t x)) (coefs_in (cs t x)) (values_in (vs t x)) (bs t x) (ks t x) c.args.own (i t x) c.args.j (totals_at (i t x) (tr t x)) (budget_at (i t x) (tr t x)) (pl t x) (cap t x) (pg t x) c.args.seen (pg t x) c.args.seen _ c.if-v-ge-STEPS.true (own_begins t x c.if-own.true _ refl).goes; begins = refl; trodden = refl; long = (c.requires.12, c.requires.11); few = c.requires.8 }
 
 pub byte_at-b-requires : goal.byte_at-b-requires
-byte_at-b-requires t c = byte_place t (goal.at.byte_at-b-requires t c).Start _ (omega (arith, c.if-v-ge8.false))
+byte_at-b-requires t c = byte_place t (goal.at.byte_at-b-requires t c).Start _ (omega (arith, c.if-v-ge-STEPS.false))
 
-pub child_at-requires : goal.child_at-requires
-child_at-requires t c =
-    let x = (goal.at.child_at-requires t c).Start in
+pub child_at-child-requires : goal.child_at-child-requires
+child_at-child-requires t c =
+    let x = (goal.at.child_at-child-requires t c).Start in
     rw c.byte_at-b.ensures (child_place t x _ (arc_some c.byte_at-b.ensures c.is_arc.ensures c.if-is_arc.true))
 
 pub goes-requires : goal.goes-requires
 goes-requires t c =
     let x = (goal.at.goes-requires t c).Start in
     let some = arc_some c.byte_at-b.ensures c.is_arc.ensures c.if-is_arc.true in
-    rw (c.child_at.ensures, c.byte_at-b.ensures) (goes_place t x (omega (arith, c.if-v-ge8.false)) some (own_begins t x c.if-own.true _ c.step-v.ensures))
+    rw (c.child_at-child.ensures, c.byte_at-b.ensures) (goes_place t x (omega (arith, c.if-v-ge-STEPS.false)) some (own_begins t x c.if-own.true _ refl))
 
 pub overflow_sub-b : goal.overflow_sub-b
 overflow_sub-b t c =
     omega (arith, arc_some c.byte_at-b.ensures c.is_arc.ensures c.if-is_arc.true)
 
-pub node-t-requires : goal.node-t-requires
-node-t-requires t c =
-    let x = (goal.at.node-t-requires t c).Start in
+pub node-count-requires : goal.node-count-requires
+node-count-requires t c =
+    let x = (goal.at.node-count-requires t c).Start in
     let bytes = c.byte_at-b.ensures in
     let some = arc_some bytes c.is_arc.ensures c.if-is_arc.true in
-    let hv : c.step-v.result < 8 = omega (arith, c.if-v-ge8.false) in
-    let p = own_begins t x c.if-own.true _ c.step-v.ensures in
+    let hv : get_or (pl t x) (i t x) 0 < 8 = omega (arith, c.if-v-ge-STEPS.false) in
+    let p = own_begins t x c.if-own.true _ refl in
     let goes = c.goes in
     let on = rw (sym goes.ensures.value ∙ c.if-goes.true) at goes.ensures.trail in
     let next = next_place t x hv some p c.if-left-ne1.true in (
@@ -272,9 +271,8 @@ node-t-requires t c =
         c.requires.8,
         c.requires.9,
         c.requires.10,
-        c.requires.11,
         ap length on ∙ next_long t x hv some p,
-        c.requires.13,
+        c.requires.12,
       ),
     )
 
@@ -284,19 +282,19 @@ loop-v-init t c = λ tr pl pg s l p. p
 pub byte_at-b-requires-in-loop-v : goal.byte_at-b-requires-in-loop-v
 byte_at-b-requires-in-loop-v t c = byte_place t (goal.at.byte_at-b-requires-in-loop-v t c).Start _ c.loop-v-test.true
 
-pub shape_of-page-then-cap-t : goal.shape_of-page-then-cap-t
-shape_of-page-then-cap-t t c = (stands t (goal.at.shape_of-page-then-cap-t t c).At-loop-v).0.page_long
+pub shape_of-page-then-room-count : goal.shape_of-page-then-room-count
+shape_of-page-then-room-count t c = (stands t (goal.at.shape_of-page-then-room-count t c).At-loop-v).0.page_long
 
-pub returns-then-cap-t : goal.returns-then-cap-t
-returns-then-cap-t t c =
-    let x = (goal.at.returns-then-cap-t t c).Start in
-    let k = (goal.at.returns-then-cap-t t c).At-loop-v in
+pub returns-then-room-count : goal.returns-then-room-count
+returns-then-room-count t c =
+    let x = (goal.at.returns-then-room-count t c).Start in
+    let k = (goal.at.returns-then-room-count t c).At-loop-v in
     let p = (stands t k).0 in
-    record { found = going_full (n t x) (m t x) (w t x) (sets_in (vs t x)) (weights_in (cs t x)) (leasts_in (cs t x)) (mosts_in (cs t x)) (coefs_in (cs t x)) (values_in (vs t x)) (bs t x) (ks t x) c.args.own (i t x) c.args.j (totals_at (i t x) (tr t x)) (budget_at (i t x) (tr t x)) (pl t x) (cap t x) (pg t x) c.args.seen c.loop-v.page c.loop-v.t c.loop-v.v c.if-cap-t.true p.goes; begins = p.begun; trodden = p.under; long = (p.plan_long, p.trail_long); few = p.few }
+    record { found = going_full (n t x) (m t x) (w t x) (sets_in (vs t x)) (weights_in (cs t x)) (leasts_in (cs t x)) (mosts_in (cs t x)) (coefs_in (cs t x)) (values_in (vs t x)) (bs t x) (ks t x) c.args.own (i t x) c.args.j (totals_at (i t x) (tr t x)) (budget_at (i t x) (tr t x)) (pl t x) (cap t x) (pg t x) c.args.seen c.loop-v.page c.loop-v.count c.loop-v.v c.if-room-count.true p.goes; begins = p.begun; trodden = p.under; long = (p.plan_long, p.trail_long); few = p.few }
 
-pub child_at-requires-then-is_arc-2 : goal.child_at-requires-then-is_arc-2
-child_at-requires-then-is_arc-2 t c =
-    let x = (goal.at.child_at-requires-then-is_arc-2 t c).Start in
+pub child_at-child-requires-then-is_arc-2 : goal.child_at-child-requires-then-is_arc-2
+child_at-child-requires-then-is_arc-2 t c =
+    let x = (goal.at.child_at-child-requires-then-is_arc-2 t c).Start in
     rw c.byte_at-b-in-loop-v.ensures (child_place t x _ (arc_some c.byte_at-b-in-loop-v.ensures c.is_arc-in-loop-v.ensures c.if-is_arc-2.true))
 
 pub goes-requires-then-is_arc-2 : goal.goes-requires-then-is_arc-2
@@ -304,22 +302,22 @@ goes-requires-then-is_arc-2 t c =
     let x = (goal.at.goes-requires-then-is_arc-2 t c).Start in
     let bytes = c.byte_at-b-in-loop-v.ensures in
     let some = arc_some bytes c.is_arc-in-loop-v.ensures c.if-is_arc-2.true in
-    rw (c.child_at-then-is_arc-2.ensures, bytes) (goes_place t x c.loop-v-test.true some (stands t (goal.at.goes-requires-then-is_arc-2 t c).At-loop-v).0)
+    rw (c.child_at-child-then-is_arc-2.ensures, bytes) (goes_place t x c.loop-v-test.true some (stands t (goal.at.goes-requires-then-is_arc-2 t c).At-loop-v).0)
 
-pub put-t-requires : goal.put-t-requires
-put-t-requires t c =
-    let x = (goal.at.put-t-requires t c).Start in
-    let p = (stands t (goal.at.put-t-requires t c).At-loop-v).0 in
-    ((g t x).slots_few, omega (arith, c.if-cap-t.false), rw p.page_long c.requires.6, rw p.page_long c.requires.7, omega (arith, length-set c.loop-v.plan (i t x) c.loop-v.v, p.plan_long, (g t x).slots_few))
+pub put-count-requires : goal.put-count-requires
+put-count-requires t c =
+    let x = (goal.at.put-count-requires t c).Start in
+    let p = (stands t (goal.at.put-count-requires t c).At-loop-v).0 in
+    ((g t x).slots_few, omega (arith, c.if-room-count.false), rw p.page_long c.requires.6, rw p.page_long c.requires.7, omega (arith, length-set c.loop-v.plan (i t x) c.loop-v.v, p.plan_long, (g t x).slots_few))
 
 pub overflow_sub-b-else-left-eq1 : goal.overflow_sub-b-else-left-eq1
 overflow_sub-b-else-left-eq1 t c =
     omega (arith, arc_some c.byte_at-b-in-loop-v.ensures c.is_arc-in-loop-v.ensures c.if-is_arc-2.true)
 
-pub node-t-requires-else-left-eq1 : goal.node-t-requires-else-left-eq1
-node-t-requires-else-left-eq1 t c =
-    let x = (goal.at.node-t-requires-else-left-eq1 t c).Start in
-    let k = (goal.at.node-t-requires-else-left-eq1 t c).At-loop-v in
+pub node-count-requires-else-left-eq1 : goal.node-count-requires-else-left-eq1
+node-count-requires-else-left-eq1 t c =
+    let x = (goal.at.node-count-requires-else-left-eq1 t c).Start in
+    let k = (goal.at.node-count-requires-else-left-eq1 t c).At-loop-v in
     let bytes = c.byte_at-b-in-loop-v.ensures in
     let some = arc_some bytes c.is_arc-in-loop-v.ensures c.if-is_arc-2.true in
     let hv = c.loop-v-test.true in
@@ -340,7 +338,6 @@ node-t-requires-else-left-eq1 t c =
         p.few,
         c.requires.9,
         c.requires.10,
-        c.requires.11,
         ap length on ∙ next_long t x hv some p,
         length-set c.loop-v.plan (i t x) c.loop-v.v ∙ p.plan_long,
       ),
@@ -359,20 +356,20 @@ loop-v-preserved t c =
     let past : c.args.own ≡ true → get_or pl (i t x) 0 < v + 1 = λ h. omega (arith, q.1 h) in
     let other = not_own c.args.own v pl (i t x) q.1 in
     elim c.if-is_arc-2.branch [
-      | then-is_arc-2+else-cap-t+then-goes-2+then-left-eq1 y ↦ let some = arc_some bytes c.is_arc-in-loop-v.ensures y.if-is_arc-2.true in
-          let on = rw (y.child_at-then-is_arc-2.ensures, bytes) at (sym y.goes-then-is_arc-2.ensures.value ∙ y.if-goes-2.true) in
+      | then-is_arc-2+else-room-count+then-goes-2+then-left-eq1 y ↦ let some = arc_some bytes c.is_arc-in-loop-v.ensures y.if-is_arc-2.true in
+          let on = rw (y.child_at-child-then-is_arc-2.ensures, bytes) at (sym y.goes-then-is_arc-2.ensures.value ∙ y.if-goes-2.true) in
           let T = rw (sym y.goes-then-is_arc-2.ensures.value ∙ y.if-goes-2.true) at y.goes-then-is_arc-2.ensures.trail in
-          (same_pace (n t x) (m t x) (w t x) (cap t x) (cs t x) (vs t x) (bs t x) (ks t x) c.args.own (i t x) c.args.j tr pl pg s (y.trail-is ∙ T) y.plan-is y.page-is y.t-is refl (pace_last (n t x) (m t x) (w t x) (cap t x) (cs t x) (vs t x) (bs t x) (ks t x) c.args.own (i t x) c.args.j tr pl pg s (g t x) (under t x) c.requires.3 c.requires.10 c.requires.11 l hv p some on false other (λ h. absurd (true≢false (sym h))) (omega (arith, y.if-left-eq1.true, c.requires.2)) _ _ y.put-t.auto.page (omega (arith, y.put-t.ensures.one, y.if-cap-t.false)) y.put-t.ensures.laid), past)
-      | then-is_arc-2+else-cap-t+then-goes-2+else-left-eq1 y ↦ let some = arc_some bytes c.is_arc-in-loop-v.ensures y.if-is_arc-2.true in
-          let on = rw (y.child_at-then-is_arc-2.ensures, bytes) at (sym y.goes-then-is_arc-2.ensures.value ∙ y.if-goes-2.true) in
+          (same_pace (n t x) (m t x) (w t x) (cap t x) (cs t x) (vs t x) (bs t x) (ks t x) c.args.own (i t x) c.args.j tr pl pg s (y.trail-is ∙ T) y.plan-is y.page-is y.count-is refl (pace_last (n t x) (m t x) (w t x) (cap t x) (cs t x) (vs t x) (bs t x) (ks t x) c.args.own (i t x) c.args.j tr pl pg s (g t x) (under t x) c.requires.3 c.requires.9 c.requires.10 l hv p some on false other (λ h. absurd (true≢false (sym h))) (omega (arith, y.if-left-eq1.true, c.requires.2)) _ _ y.put-count.auto.page (omega (arith, y.put-count.ensures.one, y.if-room-count.false)) y.put-count.ensures.laid), past)
+      | then-is_arc-2+else-room-count+then-goes-2+else-left-eq1 y ↦ let some = arc_some bytes c.is_arc-in-loop-v.ensures y.if-is_arc-2.true in
+          let on = rw (y.child_at-child-then-is_arc-2.ensures, bytes) at (sym y.goes-then-is_arc-2.ensures.value ∙ y.if-goes-2.true) in
           let T = rw (sym y.goes-then-is_arc-2.ensures.value ∙ y.if-goes-2.true) at y.goes-then-is_arc-2.ensures.trail in
-          let call = y.node-t-else-left-eq1 in
-          (same_pace (n t x) (m t x) (w t x) (cap t x) (cs t x) (vs t x) (bs t x) (ks t x) c.args.own (i t x) c.args.j tr pl pg s y.trail-is y.plan-is y.page-is y.t-is refl (pace_on (n t x) (m t x) (w t x) (cap t x) (cs t x) (vs t x) (bs t x) (ks t x) c.args.own (i t x) c.args.j tr pl pg s (g t x) (under t x) c.requires.3 c.requires.10 c.requires.11 l hv p some on false other (λ h. absurd (true≢false (sym h))) _ _ _ _ call.ensures.long.1 (rw (one, T) at call.ensures.trodden) call.ensures.long.0 (rw one at call.ensures.begins) call.auto.page call.ensures.few (rw (one, bytes, T) at call.ensures.found)), past)
-      | then-is_arc-2+else-cap-t+else-goes-2 y ↦ let some = arc_some bytes c.is_arc-in-loop-v.ensures y.if-is_arc-2.true in
-          let off = rw (y.child_at-then-is_arc-2.ensures, bytes) at (sym y.goes-then-is_arc-2.ensures.value ∙ y.if-goes-2.false) in
+          let call = y.node-count-else-left-eq1 in
+          (same_pace (n t x) (m t x) (w t x) (cap t x) (cs t x) (vs t x) (bs t x) (ks t x) c.args.own (i t x) c.args.j tr pl pg s y.trail-is y.plan-is y.page-is y.count-is refl (pace_on (n t x) (m t x) (w t x) (cap t x) (cs t x) (vs t x) (bs t x) (ks t x) c.args.own (i t x) c.args.j tr pl pg s (g t x) (under t x) c.requires.3 c.requires.9 c.requires.10 l hv p some on false other (λ h. absurd (true≢false (sym h))) _ _ _ _ call.ensures.long.1 (rw (one, T) at call.ensures.trodden) call.ensures.long.0 (rw one at call.ensures.begins) call.auto.page call.ensures.few (rw (one, bytes, T) at call.ensures.found)), past)
+      | then-is_arc-2+else-room-count+else-goes-2 y ↦ let some = arc_some bytes c.is_arc-in-loop-v.ensures y.if-is_arc-2.true in
+          let off = rw (y.child_at-child-then-is_arc-2.ensures, bytes) at (sym y.goes-then-is_arc-2.ensures.value ∙ y.if-goes-2.false) in
           let T = rw (sym y.goes-then-is_arc-2.ensures.value ∙ y.if-goes-2.false) at y.goes-then-is_arc-2.ensures.trail in
-          (same_pace (n t x) (m t x) (w t x) (cap t x) (cs t x) (vs t x) (bs t x) (ks t x) c.args.own (i t x) c.args.j tr pl pg s (y.trail-is ∙ T) y.plan-is y.page-is y.t-is refl (pace_shut (n t x) (m t x) (w t x) (cap t x) (cs t x) (vs t x) (bs t x) (ks t x) c.args.own (i t x) c.args.j tr pl pg s (g t x) (under t x) c.requires.3 c.requires.10 c.requires.11 l hv p some off), past)
-      | else-is_arc-2 y ↦ (same_pace (n t x) (m t x) (w t x) (cap t x) (cs t x) (vs t x) (bs t x) (ks t x) c.args.own (i t x) c.args.j tr pl pg s y.trail-is y.plan-is y.page-is y.t-is refl (pace_none (n t x) (m t x) (w t x) (cap t x) (cs t x) (vs t x) (bs t x) (ks t x) c.args.own (i t x) c.args.j tr pl pg s (g t x) (under t x) c.requires.3 c.requires.10 c.requires.11 l hv p (rw bytes at (sym c.is_arc-in-loop-v.ensures ∙ y.if-is_arc-2.false))), past)
+          (same_pace (n t x) (m t x) (w t x) (cap t x) (cs t x) (vs t x) (bs t x) (ks t x) c.args.own (i t x) c.args.j tr pl pg s (y.trail-is ∙ T) y.plan-is y.page-is y.count-is refl (pace_shut (n t x) (m t x) (w t x) (cap t x) (cs t x) (vs t x) (bs t x) (ks t x) c.args.own (i t x) c.args.j tr pl pg s (g t x) (under t x) c.requires.3 c.requires.9 c.requires.10 l hv p some off), past)
+      | else-is_arc-2 y ↦ (same_pace (n t x) (m t x) (w t x) (cap t x) (cs t x) (vs t x) (bs t x) (ks t x) c.args.own (i t x) c.args.j tr pl pg s y.trail-is y.plan-is y.page-is y.count-is refl (pace_none (n t x) (m t x) (w t x) (cap t x) (cs t x) (vs t x) (bs t x) (ks t x) c.args.own (i t x) c.args.j tr pl pg s (g t x) (under t x) c.requires.3 c.requires.9 c.requires.10 l hv p (rw bytes at (sym c.is_arc-in-loop-v.ensures ∙ y.if-is_arc-2.false))), past)
     ]
 
 pub shape_of-page : goal.shape_of-page
@@ -383,4 +380,4 @@ returns t c =
     let x = (goal.at.returns t c).Start in
     let k = (goal.at.returns t c).At-loop-v in
     let p = (stands t k).0 in
-    record { found = going_ends (n t x) (m t x) (w t x) (sets_in (vs t x)) (weights_in (cs t x)) (leasts_in (cs t x)) (mosts_in (cs t x)) (coefs_in (cs t x)) (values_in (vs t x)) (bs t x) (ks t x) c.args.own (i t x) c.args.j (totals_at (i t x) (tr t x)) (budget_at (i t x) (tr t x)) (pl t x) (cap t x) (pg t x) c.args.seen c.loop-v.page c.loop-v.t c.loop-v.v c.loop-v-test.false p.goes; begins = p.begun; trodden = p.under; long = (p.plan_long, p.trail_long); few = p.few }
+    record { found = going_ends (n t x) (m t x) (w t x) (sets_in (vs t x)) (weights_in (cs t x)) (leasts_in (cs t x)) (mosts_in (cs t x)) (coefs_in (cs t x)) (values_in (vs t x)) (bs t x) (ks t x) c.args.own (i t x) c.args.j (totals_at (i t x) (tr t x)) (budget_at (i t x) (tr t x)) (pl t x) (cap t x) (pg t x) c.args.seen c.loop-v.page c.loop-v.count c.loop-v.v c.loop-v-test.false p.goes; begins = p.begun; trodden = p.under; long = (p.plan_long, p.trail_long); few = p.few }

@@ -15,6 +15,8 @@ use Rattle.meaning.specs.Page.{walked, page_of, page_bytes}
 use Rattle.problem.specs.Held.{campaign_of}
 use Rattle.problem.proofs.Faultless.{right}
 use Rattle.problem.proofs.Arrays.{long}
+use Rattle.slot.specs.Tables.{leasts_of, mosts_of}
+use Rattle.slot.proofs.Said.{leasts_long, mosts_long}
 use Rattle.step.specs.Answers.{listed_as}
 use Rattle.walk.proofs.Steered.{slots_are, walkable, totals_within, budget_within, laid_walked, walked_long, answer, bytes}
 use Rattle.walk.proofs.list.Goals as goal
@@ -25,11 +27,11 @@ module _ (s : Start) where
   sets_long : length s.args.p.sets ≡ 24
   sets_long = search long
 
-  low_long : length s.args.p.lb ≡ 8
-  low_long = search long
+  low_long : length (leasts_of s.args.p) ≡ 8
+  low_long = leasts_long s.args.p (search long)
 
-  high_long : length s.args.p.ub ≡ 8
-  high_long = search long
+  high_long : length (mosts_of s.args.p) ≡ 8
+  high_long = mosts_long s.args.p (search long)
 
 -- a start is at most 24 steps
 start_few : (s : Start) → length s.args.start.now ≤ 24
@@ -37,17 +39,17 @@ start_few s = let h = right version1 s.args.p s.requires.0.right in ⊎_elim (λ
 
 -- what fits on the page
 abbrev most : Start → ℕ
-most s = length s.args.page.now / s.args.p.n
+most s = length s.args.page.now / s.args.p.slots
 
-room : (s : Start) → most s * s.args.p.n ≤ length s.args.page.now
-room s = div-mul-le_self (length s.args.page.now) s.args.p.n
+room : (s : Start) → most s * s.args.p.slots ≤ length s.args.page.now
+room s = div-mul-le_self (length s.args.page.now) s.args.p.slots
 
 -- the trail at the source
 abbrev trail : Start → List ℤ
 trail s = replicate 8 (pos 0) ++ (back s.args.ceiling ∷ replicate 216 (pos 0))
 
-pub nonzero_div-cap : goal.nonzero_div-cap
-nonzero_div-cap c = (right version1 c.args.p c.requires.0.right).head.some
+pub nonzero_div-room : goal.nonzero_div-room
+nonzero_div-room c = (right version1 c.args.p c.requires.0.right).head.some
 
 pub begun-plan-requires : goal.begun-plan-requires
 begun-plan-requires c = start_few (goal.at.begun-plan-requires c).Start
@@ -63,12 +65,11 @@ node-seen-requires c =
       (right version1 p c.requires.0.right).head.some,
       omega arith,
       c.requires.0.some,
-      totals_within (trail s) p.n refl,
-      budget_within (trail s) p.n (to_z-of_z c.ranges.ceiling) c.requires.2,
+      totals_within (trail s) p.slots refl,
+      budget_within (trail s) p.slots (to_z-of_z c.ranges.ceiling) c.requires.2,
       room s,
-      div-le_self (length c.args.page.now) p.n,
+      div-le_self (length c.args.page.now) p.slots,
       omega arith,
-      refl,
       tables.long,
       tables.wide,
       refl,
@@ -99,4 +100,4 @@ returns c =
     let ps = walked (arcs_in q a.w a.arcs.now) q a.ceiling a.start.now in
     let each = walked_long p h sets (arcs_in q a.w a.arcs.now) a.ceiling a.start.now c.begun-plan.result c.begun-plan.ensures c.requires.3 in
     let laid = laid_walked a.coefs.now a.values.now c.requires.0 sets (low_long s) (high_long s) c.requires.4 c.requires.5 c.requires.1 a.ceiling (trail s) a.start.now c.begun-plan.result refl (to_z-of_z c.ranges.ceiling) c.begun-plan.ensures c.requires.3 (most s) page (later k) c.node-seen.result c.node-seen.ensures.found in
-    let n = slots_are h sets in record { value = c.closed.ensures.value ∙ answer p.n (most s) page (later k) c.node-seen.result ps (room s) each laid ∙ ap (λ (n : ℕ). listed_as (page_of (length page / n) ps)) (sym n); page = c.closed.ensures.page ∙ bytes p.n (most s) page (later k) c.node-seen.result ps (room s) each laid ∙ ap (λ (n : ℕ). page_bytes (length page) (page_of (length page / n) ps)) (sym n) }
+    let n = slots_are h sets in record { value = c.closed.ensures.value ∙ answer p.slots (most s) page (later k) c.node-seen.result ps (room s) each laid ∙ ap (λ (n : ℕ). listed_as (page_of (length page / n) ps)) (sym n); page = c.closed.ensures.page ∙ bytes p.slots (most s) page (later k) c.node-seen.result ps (room s) each laid ∙ ap (λ (n : ℕ). page_bytes (length page) (page_of (length page / n) ps)) (sym n) }
