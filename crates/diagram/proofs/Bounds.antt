@@ -1,36 +1,32 @@
 -- Is the bound the sink's cost down in the cells, and missing exactly if the source's first cell is zero?
 use mathlib.Core.Path.{◌≡◌, refl, sym, ◌∙◌, ap}
 use mathlib.Core.List.{List, [], ◌∷◌}
-use mathlib.Core.Bool.{Bool, not}
+use mathlib.Core.Bool.{Bool}
 use mathlib.Core.Option.{none, some, map, none-ne-some}
 use Prim.Native.Nat.{ℕ, suc, ◌+◌, ◌*◌, ◌≤◌}
 use native.Mathlib.Omega.{arith}
 use lib.ListN.{length, get_or, get_or-replicate}
 use lib.IntN.{ℤ, pos}
-use Rattle.laws.specs.Z.{eq_z}
 use Rattle.laws.specs.Lists.{last_or}
 use Rattle.meaning.specs.Plan.{Campaign, slots}
 use Rattle.meaning.specs.Diagram.{State, Arcs}
 use Rattle.meaning.specs.Filter.{Numbers, begins, zeros, downs}
 use Rattle.meaning.specs.Bound.{bound}
 use Rattle.meaning.specs.Buffers.{cells_need, node_need, node_cells, number_cells}
-use Rattle.meaning.specs.Calls.{Bound, bound_of}
+use Rattle.meaning.specs.Calls.{bound_of}
 use Rattle.meaning.proofs.Attains.{source_up}
 use Rattle.meaning.proofs.Bounds.{source_absent}
 use Rattle.lent.specs.Small.{Small, Fit}
 use Rattle.lent.proofs.Places.{next_downs}
 use Rattle.lent.proofs.Fit.{zeros_fit}
 use Rattle.lent.proofs.Shape.{Shaped}
+use Rattle.diagram.specs.Answers.{bound_said}
 use Rattle.diagram.proofs.Cells.{down_at, up_at, cost_down, source_begins, sink_zeros, down_fits, cell_at}
 
 -- the last layer by its place
 last_down : (q : Campaign) (i : ℕ) (cs ds : List Numbers) (a : Arcs) → last_or cs (downs q i ds a) ≡ get_or (downs q i ds a) (length a) []
 last_down q i cs ds [] = refl
 last_down q i cs ds (l ∷ ls) = last_down q (suc i) ds (next_downs q i ds l ls) ls
-
--- what the source's first cell and the sink's cost down say
-abbrev said : ℤ → ℤ → Bool → Bound
-said first last e = record { number = 0; present = not (eq_z first (pos 0)); bound = last; exact = e }
 
 module _ (q : Campaign) (s : Small q) (w : ℕ) (some_wide : 1 ≤ w) (a : Arcs) (h : Shaped q w a) where
   abbrev sink : Numbers
@@ -39,16 +35,15 @@ module _ (q : Campaign) (s : Small q) (w : ℕ) (some_wide : 1 ≤ w) (a : Arcs)
   bound_is : bound q a ≡ map (λ n. n.1) sink
   bound_is = ap (λ (l : List Numbers). map (λ n. n.1) (get_or l 0 none)) (last_down q 0 [] (begins q ∷ []) a)
 
-  bound_said : (e : Bool) (d u : Numbers) → sink ≡ d → source_up q a ≡ u → Fit q (length a) d
-      → bound_of (map (λ n. n.1) d) e ≡ said (get_or (node_cells (node_need q) (begins q) u) 0 (pos 0)) (get_or (node_cells (node_need q) d (zeros q)) (4 * length q.rules + 1) (pos 0)) e
-  bound_said e none none f g fit =
-      let k = node_need q in
-      rw (get_or-replicate k 0 (pos 0) (pos 0) (omega arith), get_or-replicate k (4 * length q.rules + 1) (pos 0) (pos 0) (omega arith)) refl
-  bound_said e none (some u) f g fit =
+  said : (e : Bool) (d u : Numbers) → sink ≡ d → source_up q a ≡ u → Fit q (length a) d
+      → bound_of (map (λ n. n.1) d) e ≡ bound_said (get_or (node_cells (node_need q) (begins q) u) 0 (pos 0)) (get_or (node_cells (node_need q) d (zeros q)) (4 * length q.rules + 1) (pos 0)) e
+  said e none none f g fit =
+      rw (get_or-replicate (node_need q) 0 (pos 0) (pos 0) (omega arith)) refl
+  said e none (some u) f g fit =
       absurd (none-ne-some u (sym ((source_absent q a).0 (bound_is ∙ ap (map (λ n. n.1)) f)) ∙ g))
-  bound_said e (some d) none f g fit =
+  said e (some d) none f g fit =
       absurd (none-ne-some d.1 (sym ((source_absent q a).1 g) ∙ bound_is ∙ ap (map (λ n. n.1)) f))
-  bound_said e (some d) (some u) f g fit = ap (λ (z : ℤ). said (pos 1) z e) (sym (cost_down q (length a) 0 d _ fit (zeros_fit q)))
+  said e (some d) (some u) f g fit = ap (λ (z : ℤ). bound_said (pos 1) z e) (sym (cost_down q (length a) 0 d _ fit (zeros_fit q)))
 
   -- in cells that hold the numbers
   module _ (z : ℕ) (room : cells_need q w ≤ z) (x : List ℤ) (is : x ≡ number_cells q w z a) where
@@ -70,10 +65,10 @@ module _ (q : Campaign) (s : Small q) (w : ℕ) (some_wide : 1 ≤ w) (a : Arcs)
         ∙ ap (λ n. get_or (node_cells (node_need q) sink n) m (pos 0)) (sink_zeros q a)
 
     pub bound_cells : (e : Bool)
-        → bound_of (bound q a) e ≡ record { number = 0; present = not (eq_z (get_or x 0 (pos 0)) (pos 0)); bound = get_or x (slots q * w * node_need q + 4 * length q.rules + 1) (pos 0); exact = e }
+        → bound_of (bound q a) e ≡ bound_said (get_or x 0 (pos 0)) (get_or x (slots q * w * node_need q + 4 * length q.rules + 1) (pos 0)) e
     bound_cells e =
-        ap (λ b. bound_of b e) bound_is ∙ bound_said e sink (source_up q a) refl refl (down_fits q s w a h (length a) 0)
-        ∙ (λ i. said (sym first_cell i) (sym last_cell i) e)
+        ap (λ b. bound_of b e) bound_is ∙ said e sink (source_up q a) refl refl (down_fits q s w a h (length a) 0)
+        ∙ (λ i. bound_said (sym first_cell i) (sym last_cell i) e)
 
     -- the source has numbers up exactly if its first cell is not zero
     pub source_none : source_up q a ≡ none → get_or x 0 (pos 0) ≡ pos 0

@@ -4,13 +4,12 @@ use mathlib.Core.List.{List, [], ◌∷◌, map}
 use mathlib.Core.Bool.{Bool, true, false, not, ◌&&◌, ◌||◌, cond, true≢false}
 use Prim.Native.Nat.{ℕ, suc, ◌+◌, ◌*◌, ◌≤◌, ◌<◌}
 use native.Mathlib.Omega.{arith}
-use borrow.Author.Tests.{leb-true, le-leb, lt-leb, lt-ltb, le-ltb, not-true}
+use borrow.Author.Tests.{leb-true, le-leb, lt-ltb, le-ltb}
 use lib.Dec.{leb, ltb}
 use lib.ListN.{length}
 use lib.Seq.{length-take-le}
-use lib.IntN.{ℤ, pos, negsuc}
-use lib.Signed.{le_z, lt_z}
-use Rattle.laws.specs.Z.{zarith, Within}
+use lib.IntN.{ℤ, pos}
+use Rattle.laws.specs.Z.{Within}
 use Rattle.laws.specs.Lists.{from}
 use Rattle.laws.proofs.Lists.{and_l, and_r}
 use Rattle.laws.proofs.Each.{Each, each_keep, each_from, each_every}
@@ -22,6 +21,9 @@ use Rattle.meaning.specs.Calls.{Lent, unless, guarded, wrong_width, wrong_number
 use Rattle.meaning.specs.Buffers.{arcs_need, cells_need}
 use Rattle.meaning.proofs.Faultless.{size_within}
 use Rattle.meaning.proofs.Ranges.{guarded as none_leaves}
+use Rattle.refusal.specs.declared.Refusal.{Refusal}
+use Rattle.refusal.specs.declared.Refusal.TheVariants.{EndsEarly, WrongMark, WrongVersion, WrongSize, WrongSlot, WrongRule, BytesLeft, WrongArguments, BeyondLimit, WrongStart, ShortBuffer}
+use Rattle.refusal.specs.Refusals.{number_of}
 use Rattle.problem.specs.declared.Problem.{Problem}
 use Rattle.problem.specs.Held.{campaign_of, fault_in}
 use Rattle.problem.proofs.Faultless.{right}
@@ -33,12 +35,6 @@ use Rattle.lent.specs.Small.{Small}
 not-not : (t : Bool) → not (not t) ≡ t
 not-not true = refl
 not-not false = refl
-
-pub width_none : (w : ℕ) → w < 1 → false ≡ not (wrong_width w)
-width_none w h = rw (lt-leb 1 w h) refl
-
-pub width_some : (w : ℕ) → 1 ≤ w → leb w 16 ≡ not (wrong_width w)
-width_some w h = rw (le-leb 1 w h) (sym (not-not (leb w 16)))
 
 -- what a right width is
 pub width_right : (w : ℕ) → not (wrong_width w) ≡ true → (1 ≤ w) × (w ≤ 16)
@@ -58,37 +54,10 @@ module _ (w n : ℕ) (c : ℤ) where
           let both : (leb n 64 && size limit c) ≡ true = sym (not-not (leb n 64 && size limit c)) ∙ e in
           (wide.0, wide.1, size_within limit c (and_r (leb n 64) (size limit c) both))
 
-  pub numbers_width : not (wrong_width w) ≡ false → false ≡ not (wrong_numbers w n c)
-  numbers_width e = rw (not_no (wrong_width w) e) refl
-    where
-      not_no : (t : Bool) → not t ≡ false → t ≡ true
-      not_no true e = refl
-      not_no false e = absurd (true≢false e)
-
-  module _ (e : not (wrong_width w) ≡ true) where
-    right_width : wrong_width w ≡ false
-    right_width = not-true (wrong_width w) e
-
-    pub numbers_rounds : 64 < n → false ≡ not (wrong_numbers w n c)
-    numbers_rounds h = rw (right_width, lt-leb n 64 h) refl
-
-    module _ (h : n ≤ 64) where
-      rest : not (wrong_numbers w n c) ≡ size limit c
-      rest = rw (right_width, le-leb n 64 h) (not-not (size limit c))
-
-      pub numbers_low : lt_z c (negsuc 1999999) ≡ true → false ≡ not (wrong_numbers w n c)
-      numbers_low f = let low : le_z (negsuc 1999999) c ≡ false = omega zarith in sym (rest ∙ rw low refl)
-
-      pub numbers_high : lt_z c (negsuc 1999999) ≡ false → le_z c (pos 2000000) ≡ not (wrong_numbers w n c)
-      numbers_high f = let low : le_z (negsuc 1999999) c ≡ true = omega zarith in sym (rest ∙ rw low refl)
-
 -- ---- the refusals, whatever is done
 module _ {A : Type 0} (a b : Bool) (zs : List ℤ) (refusal : ℕ → A) (done : A) where
   abbrev answered : A
   answered = unless (first_fault ((8, a) ∷ (11, b) ∷ [])) refusal (guarded zs refusal done)
-
-  pub refused_8 : a ≡ true → answered ≡ refusal 8
-  refused_8 e = rw e
 
   pub refused_11 : a ≡ false → b ≡ true → answered ≡ refusal 11
   refused_11 e f = rw (e, f)
@@ -111,9 +80,6 @@ pub enough : (q : Campaign) (w : ℕ) (l : Lent) → arcs_need q w ≤ length l.
 enough q w l h k = rw (le-ltb (length l.arcs) (arcs_need q w) h, le-ltb (length l.cells) (cells_need q w) k)
 
 -- of a plan's buffer too
-pub short_plan_lem : (q : Campaign) (w : ℕ) (l : Lent) → length l.plan < slots q → (short_diagram q w l || short_plan q l) ≡ true
-short_plan_lem q w l h = rw (lt-ltb (length l.plan) (slots q) h) (or_true (short_diagram q w l))
-
 pub short_either : (a b : Bool) → a ≡ true → (a || b) ≡ true
 short_either a b e = rw e
 
@@ -143,6 +109,20 @@ small_unguarded q s =
         let one : rule_size q r ≤ limit = rw (s.steps, e.0) (omega (arith, sizes_most 7000 r.share h.0 0 q.sets)) in
         (one, rules rs h.1 e.1)
 
+-- no refusal has the number 0
+pub numbered : (e : Refusal) → number_of e ≡ 0 → ⊥
+numbered EndsEarly h = omega arith
+numbered WrongMark h = omega arith
+numbered WrongVersion h = omega arith
+numbered WrongSize h = omega arith
+numbered WrongSlot h = omega arith
+numbered WrongRule h = omega arith
+numbered BytesLeft h = omega arith
+numbered WrongArguments h = omega arith
+numbered BeyondLimit h = omega arith
+numbered WrongStart h = omega arith
+numbered ShortBuffer h = omega arith
+
 -- ---- of a problem without fault
 module _ (p : Problem) (e : fault_in version1 p ≡ 0) where
   pub problem_small : Small (campaign_of p)
@@ -152,11 +132,15 @@ module _ (p : Problem) (e : fault_in version1 p ≡ 0) where
   unguarded = small_unguarded (campaign_of p) problem_small
 
   pub no_guard : guard_in p ≡ 0
-  no_guard = rw unguarded (either (right_head p.n p.m))
+  no_guard = rw unguarded (either (right_head p.slots p.rules))
     where
       either : (t : Bool) → ◌≡◌ {A = ℕ} (cond t 0 0) 0
       either true = refl
       either false = refl
+
+  -- so it refuses nothing
+  pub unrefused : (e : Refusal) → number_of e ≡ guard_in p → ⊥
+  unrefused r h = numbered r (h ∙ no_guard)
 
   pub relaxed_stays : (w n : ℕ) (c : ℤ) → leaves (relaxed_numbers (campaign_of p) w n c) ≡ false
   relaxed_stays w n c = none_leaves relaxed (campaign_of p) w n c unguarded
@@ -165,11 +149,11 @@ module _ (p : Problem) (e : fault_in version1 p ≡ 0) where
   restricted_stays w = none_leaves restricted (campaign_of p) w 0 (pos 0) unguarded
 
   -- ---- n, m and the needs
-  pub slots_are : length p.sets ≡ 24 → slots (campaign_of p) ≡ p.n
-  slots_are long = length-take-le p.n p.sets (omega (arith, (right version1 p e).head.most))
+  pub slots_are : length p.sets ≡ 24 → slots (campaign_of p) ≡ p.slots
+  slots_are long = length-take-le p.slots p.sets (omega (arith, (right version1 p e).head.most))
 
-  pub arcs_need_lem : length p.sets ≡ 24 → (w : ℕ) → 8 * p.n * w ≡ arcs_need (campaign_of p) w
+  pub arcs_need_lem : length p.sets ≡ 24 → (w : ℕ) → 8 * p.slots * w ≡ arcs_need (campaign_of p) w
   arcs_need_lem long w = rw (slots_are long) refl
 
-  pub cells_need_lem : length p.sets ≡ 24 → (w : ℕ) → (p.n + 1) * w * (4 * p.m + 3) ≡ cells_need (campaign_of p) w
-  cells_need_lem long w = rw (slots_are long, rules_long p) (ap (λ (n : ℕ). n * w * (4 * p.m + 3)) (omega arith))
+  pub cells_need_lem : length p.sets ≡ 24 → (w : ℕ) → (p.slots + 1) * w * (4 * p.rules + 3) ≡ cells_need (campaign_of p) w
+  cells_need_lem long w = rw (slots_are long, rules_long p) (ap (λ (n : ℕ). n * w * (4 * p.rules + 3)) (omega arith))

@@ -1,9 +1,9 @@
 -- What stands in the lent buffers, and what is answered, when a builder is done?
 use mathlib.Core.Path.{◌≡◌, refl, sym, ◌∙◌, ap}
-use mathlib.Core.List.{List, [], ◌∷◌, ◌++◌, append-nil}
-use mathlib.Core.Bool.{Bool, not}
+use mathlib.Core.List.{List, [], ◌++◌, append-nil}
+use mathlib.Core.Bool.{Bool}
 use mathlib.Core.Option.{none, some}
-use Prim.Native.Nat.{ℕ, zero, suc, ◌+◌, ◌*◌, ◌-◌, ◌^◌, ◌≤◌, ◌<◌}
+use Prim.Native.Nat.{ℕ, suc, ◌+◌, ◌*◌, ◌-◌, ◌^◌, ◌≤◌, ◌<◌}
 use native.Mathlib.Omega.{arith}
 use lib.ListN.{length, get_or, take, drop, replicate, length-append, length-drop, drop_of_length-le}
 use lib.Seq.{take_at, drop_at, get_or-take, length-take-le}
@@ -11,7 +11,7 @@ use lib.IntN.{ℤ, pos}
 use lib.Signed.{mag}
 use mir.Syntax.{w32}
 use mir.Val.{of_z}
-use Rattle.laws.specs.Z.{zarith, eq_z, bits_eq}
+use Rattle.laws.specs.Z.{zarith, bits_eq}
 use Rattle.laws.specs.Lists.{padded}
 use Rattle.laws.specs.Cells.{cell_below}
 use Rattle.laws.proofs.Filled.{length-padded, padded_none, take-padded}
@@ -27,14 +27,15 @@ use Rattle.problem.specs.declared.Problem.{Problem}
 use Rattle.problem.specs.Held.{campaign_of}
 use Rattle.problem.proofs.Faultless.{right}
 use Rattle.slot.proofs.Said.{rules_long}
+use Rattle.slot.proofs.Laid.{front_put}
+use Rattle.diagram.specs.Open.{Open}
 use Rattle.lent.specs.Wide.{wide, laid}
 use Rattle.lent.specs.Small.{Small}
 use Rattle.lent.proofs.Led.{shown_led, shown_none}
 use Rattle.lent.proofs.Shape.{Shaped, built_shaped, drops_shaped}
-use Rattle.numbers.specs.Whole.{Ready, Formed, half_cells}
+use Rattle.numbers.specs.Whole.{Formed, half_cells}
 use Rattle.numbers.proofs.Held.{held_long, held_formed}
-use Rattle.diagram.specs.declared.Bound.{Bound}
-use Rattle.diagram.specs.Answers.{bounded_as}
+use Rattle.diagram.specs.Answers.{bound_said}
 use Rattle.diagram.specs.Leading.{Leads}
 use Rattle.diagram.proofs.Rounds.{held_half, held_drops, held_swept}
 use Rattle.diagram.proofs.Cells.{cells_behind}
@@ -42,21 +43,6 @@ use Rattle.diagram.proofs.Bounds.{bound_cells, source_none, source_some}
 use Rattle.diagram.proofs.Along.{led_long}
 use Rattle.diagram.proofs.Refused.{problem_small, slots_are, cells_need_lem}
 use Rattle.diagram.proofs.Leading.{lead_of}
-
--- a front put before what a shorter one was filled up with
-front_put : {A : Type 0} (d : A) (z : ℕ) (l y : List A) → length l ≤ length y → length y ≤ z → y ++ drop (length y) (padded z d l) ≡ padded z d y
-front_put d z [] [] h r = refl
-front_put d z (x ∷ l) [] h r = absurd (omega arith)
-front_put d zero l (y ∷ ys) h r = absurd (omega arith)
-front_put {A} d (suc z) [] (y ∷ ys) h r = ap (λ (m : List A). y ∷ m) (front_put d z [] ys (omega arith) (omega arith))
-front_put {A} d (suc z) (x ∷ l) (y ∷ ys) h r = ap (λ (m : List A). y ∷ m) (front_put d z l ys (omega arith) (omega arith))
-
--- past the refusals: the width is right, and the buffers that are lent have room
-pub record Open (p : Problem) (w : ℕ) (arcs : List ℕ) (cells : List ℤ) : Type 0 where
-  pub ready : Ready p w
-  pub long : length p.sets ≡ 24
-  pub bytes : arcs_need (campaign_of p) w ≤ length arcs
-  pub room : cells_need (campaign_of p) w ≤ length cells
 
 module _ {p : Problem} {w : ℕ} {arcs : List ℕ} {cells : List ℤ} (o : Open p w arcs cells) where
   small : Small (campaign_of p)
@@ -156,6 +142,12 @@ module _ {p : Problem} {w : ℕ} {arcs : List ℕ} {cells : List ℤ} (o : Open 
       pub cells_front : (rest : List ℤ) → take n (take n half ++ rest) ≡ d
       cells_front rest = take_at (take n half) rest n (ap length half_front ∙ long) ∙ half_front
 
+      pub half_room : n ≤ length half
+      half_room = omega (arith, length-append d (drop n cells), long)
+
+      pub whole_room : (rest : List ℤ) → n ≤ length (take n half ++ rest)
+      whole_room rest = omega (arith, length-append (take n half) rest, ap length half_front, long)
+
       pub cells_need_long : (rest : List ℤ) → n ≡ length (take n (take n half ++ rest))
       cells_need_long rest = sym (ap length (cells_front rest) ∙ long)
 
@@ -179,26 +171,26 @@ module _ {p : Problem} {w : ℕ} {arcs : List ℕ} {cells : List ℤ} (o : Open 
 
     -- ---- the bound that stands there
     pub bound_done : (x : List ℤ) → x ≡ number_cells (campaign_of p) w (length cells) a → {t u : Bool} → t ≡ u
-        → ◌≡◌ {A = Bound} (record { number = 0; present = not (eq_z (get_or x 0 (pos 0)) (pos 0)); bound = get_or x (p.n * w * (4 * p.m + 3) + 4 * p.m + 1) (pos 0); exact = t }) (bounded_as (bound_of (bound (campaign_of p) a) u))
+        → bound_said (get_or x 0 (pos 0)) (get_or x (p.slots * w * (4 * p.rules + 3) + 4 * p.rules + 1) (pos 0)) t ≡ bound_of (bound (campaign_of p) a) u
     bound_done x is {t} {u} e =
         let slot = sym (slots_are p o.ready.right o.long) in
         let rule = sym (rules_long p) in
-        let at : p.n * w * (4 * p.m + 3) + 4 * p.m + 1 ≡ slots (campaign_of p) * w * (4 * length (campaign_of p).rules + 3) + 4 * length (campaign_of p).rules + 1 = λ i. slot i * w * (4 * rule i + 3) + 4 * rule i + 1 in
-        ap (λ (k : ℕ). record { number = 0; present = not (eq_z (get_or x 0 (pos 0)) (pos 0)); bound = get_or x k (pos 0); exact = t }) at
-        ∙ ap bounded_as (sym (bound_cells (campaign_of p) small w o.ready.some a h (length cells) o.room x is t)) ∙ ap (λ (b : Bool). bounded_as (bound_of (bound (campaign_of p) a) b)) e
+        let at : p.slots * w * (4 * p.rules + 3) + 4 * p.rules + 1 ≡ slots (campaign_of p) * w * (4 * length (campaign_of p).rules + 3) + 4 * length (campaign_of p).rules + 1 = λ i. slot i * w * (4 * rule i + 3) + 4 * rule i + 1 in
+        ap (λ (k : ℕ). bound_said (get_or x 0 (pos 0)) (get_or x k (pos 0)) t) at
+        ∙ sym (bound_cells (campaign_of p) small w o.ready.some a h (length cells) o.room x is t) ∙ ap (λ (b : Bool). bound_of (bound (campaign_of p) a) b) e
 
     pub first_there : (x : List ℤ) → x ≡ number_cells (campaign_of p) w (length cells) a → 0 < length x
     first_there x is = omega (arith, bound_long x is, some_cells, o.room)
 
-    pub bound_asks : (x : List ℤ) → x ≡ number_cells (campaign_of p) w (length cells) a → (p.n ≤ 24) × (p.m ≤ 8) × (1 ≤ w) × (w ≤ 16) × ((p.n + 1) * w * (4 * p.m + 3) ≤ length x)
+    pub bound_asks : (x : List ℤ) → x ≡ number_cells (campaign_of p) w (length cells) a → (p.slots ≤ 24) × (p.rules ≤ 8) × (1 ≤ w) × (w ≤ 16) × ((p.slots + 1) * w * (4 * p.rules + 3) ≤ length x)
     bound_asks x is =
         let head = (right version1 p o.ready.right).head in
-        let enough : (p.n + 1) * w * (4 * p.m + 3) ≤ length x = omega (arith, bound_long x is, o.room, cells_need_lem p o.ready.right o.long w) in
+        let enough : (p.slots + 1) * w * (4 * p.rules + 3) ≤ length x = omega (arith, bound_long x is, o.room, cells_need_lem p o.ready.right o.long w) in
         (head.most, head.rules, o.ready.some, o.ready.few, enough)
 
   -- ---- the plan shown
   module _ (x : List ℤ) (is : x ≡ number_cells (campaign_of p) w (length cells) (restricted_arcs (campaign_of p) w)) (r : List ℕ) (z : ℕ) where
-    pub plan_led : (get_or x 0 (pos 0) ≡ pos 0 → ⊥) → p.n ≤ z → r ≡ lead_of p w ++ drop p.n (replicate z 0) → r ≡ plan_bytes z (shown (campaign_of p) w)
+    pub plan_led : (get_or x 0 (pos 0) ≡ pos 0 → ⊥) → p.slots ≤ z → r ≡ lead_of p w ++ drop p.slots (replicate z 0) → r ≡ plan_bytes z (shown (campaign_of p) w)
     plan_led f room e = go (source_up (campaign_of p) (restricted_arcs (campaign_of p) w)) refl
       where
         go : (u : Numbers) → source_up (campaign_of p) (restricted_arcs (campaign_of p) w) ≡ u → r ≡ plan_bytes z (shown (campaign_of p) w)
@@ -208,7 +200,7 @@ module _ {p : Problem} {w : ℕ} {arcs : List ℕ} {cells : List ℤ} (o : Open 
         go (some u) g =
             let q = campaign_of p in
             let l = lead_of p w in
-            let long : length l ≡ p.n = led_long q 0 (restricted_arcs q w) 0 ∙ restricted_shaped.long ∙ slots_are p o.ready.right o.long in
+            let long : length l ≡ p.slots = led_long q 0 (restricted_arcs q w) 0 ∙ restricted_shaped.long ∙ slots_are p o.ready.right o.long in
             e ∙ (λ i. l ++ drop (sym long i) (sym (padded_none 0 z) i)) ∙ front_put 0 z [] l (omega arith) (omega (arith, long)) ∙ ap (plan_bytes z) (sym (shown_led q w g))
 
     pub plan_none : get_or x 0 (pos 0) ≡ pos 0 → r ≡ replicate z 0 → r ≡ plan_bytes z (shown (campaign_of p) w)

@@ -5,7 +5,6 @@ use mathlib.Core.Bool.{true, false}
 use Prim.Native.Nat.{ℕ, zero, suc, ◌+◌, ◌*◌, ◌-◌, ◌≤◌, ◌<◌}
 use native.Mathlib.Omega.{arith}
 use native.Mathlib.Numerals.{add-one}
-use native.Mathlib.Nat.{suc-mul, mul-le-mul}
 use lib.ListN.{length, get_or, drop, drop_of_length-le}
 use lib.Seq.{drop-cons}
 use lib.IntN.{ℤ, pos, ◌+ℤ◌, ◌*ℤ◌}
@@ -19,26 +18,12 @@ use Rattle.diagram.specs.Leading.{reached_cell, first_cell, Led}
 abbrev pub cost_at : ℕ → ℕ → ℕ
 cost_at m b = (b - 1) * (4 * m + 3) + 4 * m + 2
 
-pub cost_small : (m b : ℕ) → m ≤ 8 → b < 256 → (b - 1) * (4 * m + 3) ≤ 8925
-cost_small m b h k =
-    let most : 4 * m + 3 ≤ 35 = omega arith in
-    let bytes : b - 1 ≤ 255 = omega arith in
-    omega (arith, mul-le-mul bytes most)
-
 module _ {m : ℕ} {weight : ℤ} {bs : List ℕ} {cells : List ℤ} (h : Led m weight bs cells) (v : ℕ) (few : v < 8) where
   abbrev byte : ℕ
   byte = get_or bs v 0
 
   byte_there : v < length bs
   byte_there = omega (arith, h.eight)
-
-  -- it is there, and its sum with the price fits
-  pub cost_there : 1 ≤ byte → cost_at m byte < length cells
-  cost_there b =
-      let k = 4 * m + 3 in
-      let most = each_at (λ b. b * k ≤ length cells) bs v 0 (omega arith) h.there in
-      let o : byte ≡ suc (byte - 1) = omega arith in
-      omega (arith, suc-mul (byte - 1) k, ap (λ (n : ℕ). n * k) o)
 
   abbrev child : ℤ
   child = get_or cells (cost_at m byte) (pos 0)
@@ -50,7 +35,8 @@ module _ {m : ℕ} {weight : ℤ} {bs : List ℕ} {cells : List ℤ} (h : Led m 
     both : back child +ℤ back price ≡ child +ℤ price
     both = λ i. back_is child_within tt i +ℤ back_is small tt i
 
-    pub sum_fits : SFits w32 (back child +ℤ back price)
+    -- its sum with the price fits
+    sum_fits : SFits w32 (back child +ℤ back price)
     sum_fits = rw both (sum32 child_within small tt)
 
     module _ (is : price ≡ weight *ℤ pos v) {cost : ℤ} (fits : SFits w32 cost) (some : 1 ≤ byte) where

@@ -31,7 +31,7 @@ pub record Led (m : ℕ) (weight : ℤ) (arcs : List ℕ) (cells : List ℤ) : T
 -- the buffers hold the restricted diagram, and its source is present
 pub record Leads (p : Problem) (w : ℕ) (arcs : List ℕ) (cells : List ℤ) : Type 0 where
   pub ready : Ready p w
-  pub slots_are : slots (campaign_of p) ≡ p.n
+  pub slots_are : slots (campaign_of p) ≡ p.slots
   pub arcs_are : arcs ≡ laid 8 w (restricted_arcs (campaign_of p) w)
   pub cells_are : cells ≡ number_cells (campaign_of p) w (cells_need (campaign_of p) w) (restricted_arcs (campaign_of p) w)
   pub present : get_or cells 0 (pos 0) ≡ pos 0 → ⊥

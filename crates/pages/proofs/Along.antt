@@ -26,7 +26,7 @@ use Rattle.numbers.proofs.Held.{held_arcs, held_long, held_formed}
 use Rattle.diagram.proofs.Refused.{problem_small}
 use Rattle.diagram.proofs.Rounds.{relaxed_shaped}
 use Rattle.diagram.proofs.Cells.{cells_behind}
-use Rattle.diagram.proofs.Served.{Open}
+use Rattle.diagram.specs.Open.{Open}
 use Rattle.walk.proofs.Steered.{cells_count}
 
 module _ {p : Problem} {w : ℕ} {arcs : List ℕ} {cells : List ℤ} (o : Open p w arcs cells) (n : ℕ) (c : ℤ) where

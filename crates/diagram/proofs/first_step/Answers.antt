@@ -1,15 +1,15 @@
 use mathlib.Core.Path.{◌≡◌, refl, sym, ap, ◌∙◌}
 use mathlib.Core.Logic.{⊎_elim}
-use Prim.Native.Nat.{ℕ, ◌+◌, ◌*◌, ◌-◌, ◌≤◌, ◌<◌}
+use Prim.Native.Nat.{ℕ, ◌+◌, ◌<◌}
 use native.Mathlib.Omega.{arith}
-use lib.ListN.{get_or, drop}
+use lib.ListN.{drop}
 use lib.IntN.{ℤ, pos, ◌*ℤ◌}
 use mir.Facts.{to_z-of_z}
 use Rattle.laws.specs.Z.{back, back_within}
 use Rattle.diagram.specs.Leading.{first_cell}
-use Rattle.diagram.proofs.Steps.{cost_small, cost_there, sum_fits, step_stops, step_goes, step_skips, steps_end}
+use Rattle.diagram.proofs.Steps.{step_stops, step_goes, step_skips, steps_end}
 use Rattle.diagram.proofs.first_step.Goals as goal
-use Rattle.diagram.proofs.first_step.Goals.{Start, Then-b-ne0}
+use Rattle.diagram.proofs.first_step.Goals.{Start}
 
 -- the weight and the cost are read back from their bits
 told : (s : Start) (v : ℕ)
@@ -18,48 +18,10 @@ told : (s : Start) (v : ℕ)
 told s v = λ i. first_cell s.args.m (to_z-of_z s.ranges.weight i) s.args.cells.now (to_z-of_z s.ranges.cost i) v (drop v s.args.arcs.now)
 
 pub loop-v-init : goal.loop-v-init
-loop-v-init c = (omega arith, refl)
-
-pub bounds-arcs-v : goal.bounds-arcs-v
-bounds-arcs-v c = omega (arith, c.requires.eight)
-
-pub overflow_cast-b : goal.overflow_cast-b
-overflow_cast-b c = record { fits = omega (arith, c.shared_slice_known-in-loop-v-1.given c.loop-v.v) }
-
-low : (c : Then-b-ne0) → (get_or c.args.arcs.now c.loop-v.v 0 - 1) * (4 * c.args.m + 3) ≤ 8925
-low c =
-    let v = c.loop-v.v in
-    cost_small c.args.m (get_or c.args.arcs.now v 0) c.requires.few (omega (arith, c.shared_slice_known-in-loop-v-1.given v))
-
-pub overflow_mul-c : goal.overflow_mul-c
-overflow_mul-c c = let few = c.requires.few in record { fits = omega arith }
-
-pub overflow_add-c : goal.overflow_add-c
-overflow_add-c c = let few = c.requires.few in record { fits = omega arith }
-
-pub overflow_mul-c-then-b-ne0 : goal.overflow_mul-c-then-b-ne0
-overflow_mul-c-then-b-ne0 c = let few = c.requires.few in record { fits = omega (arith, low c) }
-
-pub overflow_mul-c-then-b-ne0-2 : goal.overflow_mul-c-then-b-ne0-2
-overflow_mul-c-then-b-ne0-2 c = let few = c.requires.few in record { fits = omega arith }
-
-pub overflow_add-c-then-b-ne0 : goal.overflow_add-c-then-b-ne0
-overflow_add-c-then-b-ne0 c = let few = c.requires.few in record { fits = omega (arith, low c) }
-
-pub overflow_add-c-then-b-ne0-2 : goal.overflow_add-c-then-b-ne0-2
-overflow_add-c-then-b-ne0-2 c = let few = c.requires.few in record { fits = omega (arith, low c) }
-
-pub offset_bounds-cells-b : goal.offset_bounds-cells-b
-offset_bounds-cells-b c = let few = c.requires.few in record { fits = omega (arith, low c) }
-
-pub bounds-cells-b : goal.bounds-cells-b
-bounds-cells-b c = cost_there c.requires c.loop-v.v (omega arith) (omega arith)
+loop-v-init c = refl
 
 pub price-requires : goal.price-requires
 price-requires c = (omega arith, back_within c.requires.small tt)
-
-pub overflow_add-c-then-b-ne0-3 : goal.overflow_add-c-then-b-ne0-3
-overflow_add-c-then-b-ne0-3 c = sum_fits c.requires c.loop-v.v (omega arith) c.price.ensures.1
 
 pub returns-then-c-price : goal.returns-then-c-price
 returns-then-c-price c =
@@ -68,7 +30,7 @@ returns-then-c-price c =
     let p = c.price in
     let is : p.result ≡ c.args.weight *ℤ pos v = p.ensures.0 ∙ ap (λ (t : ℤ). t *ℤ pos v) (to_z-of_z c.ranges.weight) in
     let stops = step_stops c.requires v (omega arith) p.ensures.1 is c.ranges.cost (omega arith) c.if-c-price.true in
-    (sym (sym (told s 0) ∙ c.loop-v.invariant.1 ∙ told s v ∙ stops), omega arith)
+    (sym (sym (told s 0) ∙ c.loop-v.invariant ∙ told s v ∙ stops), omega arith)
 
 pub loop-v-preserved : goal.loop-v-preserved
 loop-v-preserved c =
@@ -77,11 +39,11 @@ loop-v-preserved c =
     let v = l.v in
     let few : v < 8 = omega arith in
     let goes = ⊎_elim (λ x. step_goes c.requires v few x.price.ensures.1 (x.price.ensures.0 ∙ ap (λ (t : ℤ). t *ℤ pos v) (to_z-of_z c.ranges.weight)) c.ranges.cost (omega (arith, x.if-b-ne0.true)) x.if-c-price.false) (λ x. step_skips c.requires v few x.if-b-ne0.false c.args.cost) c.if-b-ne0.branch-raw in
-    (omega arith, l.invariant.1 ∙ told s v ∙ goes ∙ sym (told s (v + 1)))
+    l.invariant ∙ told s v ∙ goes ∙ sym (told s (v + 1))
 
 pub returns : goal.returns
 returns c =
     let s = (goal.at.returns c).Start in
     let l = c.loop-v in
     let end : l.v ≡ 8 = omega arith in
-    (sym (sym (told s 0) ∙ l.invariant.1 ∙ told s l.v ∙ rw end (steps_end c.requires c.args.cost)), omega arith)
+    (sym (sym (told s 0) ∙ l.invariant ∙ told s l.v ∙ rw end (steps_end c.requires c.args.cost)), omega arith)
