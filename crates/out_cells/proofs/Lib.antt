@@ -1,0 +1,2 @@
+-- Why the cells of `out` hold what is told.
+pub mod Cells
