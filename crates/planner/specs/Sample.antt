@@ -1,10 +1,7 @@
 -- Which problem is built into the program?
-use Rattle.std.specs.Prelude.{◌≡◌, List, [], ◌∷◌, map, ℕ, ◌+◌, ◌^◌, replicate, ℤ, pos, negsuc}
+use Rattle.std.specs.Prelude.{List, [], ◌∷◌, map, ℕ, ◌+◌, ◌^◌, replicate, ℤ, pos, negsuc}
 use Rattle.meaning.specs.Problem.{among, Said}
 use Rattle.meaning.specs.Problem as paper
-use Rattle.problem.specs.Held.{held}
-use Rattle.planner.specs.declared.Slots.{Slots}
-use Rattle.planner.specs.declared.Rules.{Rules}
 
 -- "weights −5 −4 −2 −6 −8"
 abbrev pub sample_weights : List ℤ
@@ -21,15 +18,3 @@ at_most_one ab = record { terms = among 2 (2 ^ ab.0 + 2 ^ ab.1); lb = pos 0; ub 
 -- case A: "five slots {0,1}"
 abbrev pub case_a : paper.Problem
 case_a = record { sets = replicate 5 3; weights = sample_weights; rules = map at_most_one sample_pairs }
-
--- what the slots hold
-pub record Slotted (s : Slots) : Type 0 where
-  pub sets : s.sets ≡ (held case_a).sets
-  pub weights : s.weights ≡ (held case_a).weights
-
--- what the rules hold
-pub record Ruled (r : Rules) : Type 0 where
-  pub kinds : r.kinds ≡ (held case_a).kinds
-  pub values : r.values ≡ (held case_a).values
-  pub slots : r.slots ≡ (held case_a).slots
-  pub ub : r.ub ≡ (held case_a).ub

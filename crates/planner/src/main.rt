@@ -3,114 +3,90 @@
 #![tactic(auto)]
 
 ghost use Rattle.std.specs.Prelude.{◌≡◌, ◌+◌, ◌^◌, ◌<◌};
-ghost use Rattle.meaning.specs.Problem.{version1};
-ghost use Rattle.problem.specs.Held.{held, fault_in};
-ghost use Rattle.planner.specs.Sample.{Slotted, Ruled, case_a};
+ghost use Rattle.problem.specs.Held.{held};
+ghost use Rattle.planner.specs.Sample.{case_a};
 
-use problem::Problem;
+use problem::{Bounds, Problem, RULES, SLOTS, Sound, Terms};
 use std::io;
+use std::io::BufWriter;
 
-// ---- case A: five slots, and at most one step 1 in each of six pairs of them
+// ---- the problem that is built in: five slots with the steps 0 and 1, and at most one step 1 in each of six pairs of them
 const WEIGHTS: [i32; 5] = [-5, -4, -2, -6, -8];
 
 const PAIRS: [[usize; 2]; 6] = [[0, 1], [0, 4], [1, 2], [1, 3], [2, 3], [3, 4]];
 
-// What the problem has for each slot.
-#[derive(Clone, Copy)]
-struct Slots {
-    sets: [u16; 24],
-    weights: [i32; 24],
+// Steps 0 and 1 in each slot.
+fn sample_sets() -> [u16; SLOTS]
+    ensures { result ≡ (held case_a).sets }
+{
+    let mut sets = [0; SLOTS];
+    sets[..WEIGHTS.len()].fill(0b11);
+    sets
 }
 
-// What the problem has for each rule. There are no coefficients, and every lb is 0.
-#[derive(Clone, Copy)]
-struct Rules {
-    kinds: [u8; 8],
-    values: [u16; 8],
-    slots: [u32; 8],
-    ub: [i32; 8],
+fn sample_weights() -> [i32; SLOTS]
+    ensures { result ≡ (held case_a).weights }
+{
+    let mut weights = [0; SLOTS];
+    weights[..WEIGHTS.len()].copy_from_slice(&WEIGHTS);
+    weights
 }
 
 // The set of two slots.
-fn both(a: usize, b: usize) -> u32
-    requires { (a < 5) × (b < 5) }
-    ensures { result ≡ 2 ^ a + 2 ^ b }
+fn both(first: usize, second: usize) -> u32
+    requires { (first < 5) × (second < 5) }
+    ensures { result ≡ 2 ^ first + 2 ^ second }
 {
-    (1u32 << a) + (1u32 << b)
+    (1 << first) + (1 << second)
 }
 
-// Steps 0 and 1 and a weight for each slot.
-fn sample_slots() -> Slots
-    ensures { Slotted result }
+// A rule for each pair: those of its slots that have step 1.
+fn sample_terms() -> [Terms; RULES]
+    ensures { result ≡ (held case_a).terms }
 {
-    let mut sets = [0u16; 24];
-    let mut weights = [0i32; 24];
-    for i in 0..5 {
-        sets[i] = 3;
-        weights[i] = WEIGHTS[i];
+    let mut terms = [Terms::Neither; RULES];
+    for (k, [first, second]) in PAIRS.iter().enumerate() {
+        terms[k] = Terms::Among {
+            values: 0b10,
+            slots: both(*first, *second),
+        };
     }
-    Slots {
-        sets: sets,
-        weights: weights,
-    }
+    terms
 }
 
-// An among rule for each pair: step 1, at most once.
-fn sample_rules() -> Rules
-    ensures { Ruled result }
+// There is at most one of them.
+fn sample_bounds() -> [Bounds; RULES]
+    ensures { result ≡ (held case_a).bounds }
 {
-    let mut kinds = [0u8; 8];
-    let mut values = [0u16; 8];
-    let mut slots = [0u32; 8];
-    let mut ub = [0i32; 8];
-    for k in 0..6 {
-        let pair = PAIRS[k];
-        kinds[k] = 1;
-        values[k] = 2;
-        slots[k] = both(pair[0], pair[1]);
-        ub[k] = 1;
-    }
-    Rules {
-        kinds: kinds,
-        values: values,
-        slots: slots,
-        ub: ub,
-    }
+    let mut bounds = [Bounds { lb: 0, ub: 0 }; RULES];
+    bounds[..PAIRS.len()].fill(Bounds { lb: 0, ub: 1 });
+    bounds
 }
 
-// The problem of both tables.
-fn sample() -> Problem
-    ensures { (result ≡ held case_a) × (fault_in version1 result ≡ 0) }
+// The problem that is built in.
+fn sample() -> Sound
+    ensures { result.problem ≡ held case_a }
 {
-    let s = sample_slots();
-    let r = sample_rules();
-    let sets = s.sets;
-    let weights = s.weights;
-    let kinds = r.kinds;
-    let values = r.values;
-    let slots = r.slots;
-    let ub = r.ub;
-    Problem {
-        n: 5,
-        m: 6,
-        sets: sets,
-        weights: weights,
-        kinds: kinds,
-        values: values,
-        slots: slots,
-        coefs: [0i32; 192],
-        lb: [0i32; 8],
-        ub: ub,
+    Sound {
+        problem: Problem {
+            slots: WEIGHTS.len(),
+            rules: PAIRS.len(),
+            sets: sample_sets(),
+            weights: sample_weights(),
+            terms: sample_terms(),
+            bounds: sample_bounds(),
+        },
     }
 }
 
-// No accepted file is longer than 583 bytes, so that the first 4,096 decide.
+// No accepted file is longer than 583 bytes, so the first 4,096 decide.
 fn main(rt: HostRuntime) -> io::Result<()> {
     let mut input = [0u8; input::ROOM];
-    let length = input::fill(&mut rt.reader(), &mut input)?;
-    if length == 0 {
-        report::report(&rt, sample())
+    let file = input::fill(&mut rt.reader(), &mut input)?;
+    let mut out = BufWriter::new(rt.alloc(), io::writer(&rt))?;
+    if file.is_empty() {
+        report::report(&mut out, &sample())
     } else {
-        report::report_file(&rt, &input[..length])
+        report::report_file(&mut out, file)
     }
 }

@@ -1,229 +1,165 @@
 // What the planner prints for a problem or a plan file: both bounds, the lawful plans, and how many there are.
-// Each line goes out by one write as soon as it is known, and a write that fails ends the report.
 #![tactic(auto)]
 
-ghost use Rattle.std.specs.Prelude.{◌≡◌, ◌≤◌, length};
-ghost use Rattle.meaning.specs.Problem.{version1};
-ghost use Rattle.problem.specs.Held.{fault_in};
+ghost use Rattle.std.specs.Prelude.{◌≡◌, ◌*◌, ◌≤◌, OnOk, Some, length, slice_index_or};
+ghost use Rattle.std.specs.Io.KnownBytes.{Appends};
+ghost use Rattle.report.specs.Lines.{bound_text, steps_text, dual_line, primal_line, plan_line, count_line};
 
 use diagram::Bound;
-use itoa::Buffer;
-use pages::Count;
-use problem::Problem;
-use std::io;
+use problem::{SLOTS, Sound};
+use std::{fmt, io};
+use step::Listed;
 
 // The program's own arguments.
 const WIDTH: u32 = 16;
 
 const ROUNDS: u32 = 64;
 
-const CEILING: i32 = 2000000;
+const CEILING: i32 = 2_000_000;
 
-// ---- a line, gathered before it is written
-// Room for more than the longest line, a primal of 24 slots, which has 70 bytes.
-const ROOM: usize = 80;
+// As many plans as are listed.
+const PLANS: usize = 1000;
 
+// The greatest needs of the buffers.
+const ARCS: usize = 3072;
+
+const CELLS: usize = 14_000;
+
+// ---- the lines
+// A bound, and whether the diagram is exact: `-3 exact`, `none open`.
 #[derive(Clone, Copy)]
-struct Line {
-    bytes: [u8; 80],
-    len: usize,
+struct BoundText {
+    bound: Bound,
 }
 
-impl Line {
-    fn begun(word: &[u8]) -> Line {
-        Line {
-            bytes: [0u8; 80],
-            len: 0,
+impl fmt::Display for BoundText {
+    ghost output = { λ b. Some (bound_text b.bound) };
+
+    fn fmt<W: fmt::Write>(&self, f: &mut fmt::Formatter<W>) -> fmt::Result {
+        match self.bound.value {
+            Some(value) => write!(f, "{value}")?,
+            None => f.write_str("none")?,
         }
-        .word(word)
-    }
-
-    fn byte(self, b: u8) -> Line {
-        let at = self.len;
-        if ROOM <= at {
-            return self;
-        }
-        let mut next = self;
-        next.bytes[at] = b;
-        next.len = at + 1;
-        next
-    }
-
-    fn word(self, word: &[u8]) -> Line {
-        let mut line = self;
-        for i in 0..word.len() {
-            line = line.byte(word[i]);
-        }
-        line
-    }
-
-    fn number(self, x: u64) -> Line {
-        let mut digits = Buffer::new();
-        self.word(digits.format(x).as_bytes())
-    }
-
-    fn signed(self, z: i32) -> Line {
-        if z < 0 {
-            self.byte(b'-').number(guard::size_of(z))
-        } else {
-            self.number(guard::size_of(z))
-        }
-    }
-
-    fn steps(self, plan: &[u8]) -> Line {
-        let mut line = self;
-        for i in 0..plan.len() {
-            line = line.byte(b' ').number(wide(plan[i]));
-        }
-        line
-    }
-
-    // The bound or none; exact or open.
-    fn bound(self, b: Bound) -> Line {
-        self.number_or_none(b.present, b.bound)
-            .exact_or_open(b.exact)
-    }
-
-    fn number_or_none(self, present: bool, bound: i32) -> Line {
-        if present {
-            self.signed(bound)
-        } else {
-            self.word(b"none")
-        }
-    }
-
-    fn exact_or_open(self, exact: bool) -> Line {
-        if exact {
-            self.word(b" exact")
-        } else {
-            self.word(b" open")
-        }
-    }
-
-    // Writes what is gathered, all at once; an error where a write failed.
-    fn is_out(self, rt: &impl Print) -> io::Result<()> {
-        let len = self.len.min(ROOM);
-        rt.write_all(&self.bytes[..len])
-    }
-
-    // The same with the line's end.
-    fn is_written(self, rt: &impl Print) -> io::Result<()> {
-        self.byte(b'\n').is_out(rt)
+        f.write_str(if self.bound.exact { " exact" } else { " open" })
     }
 }
 
-fn wide(b: u8) -> u64 {
-    b as u64
+// The steps of a plan: ` 0 1 1 0`.
+#[derive(Clone, Copy)]
+struct Steps<'a> {
+    plan: &'a [u8],
 }
 
-// ---- the lines of a problem without fault: right arguments and buffers of the greatest need, so that no operation refuses
+impl fmt::Display for Steps<'_> {
+    ghost output = { λ s. Some (steps_text s.plan.now) };
+
+    fn fmt<W: fmt::Write>(&self, f: &mut fmt::Formatter<W>) -> fmt::Result {
+        for step in self.plan {
+            write!(f, " {step}")?;
+        }
+        Ok(())
+    }
+}
+
 // `dual 1 exact`
-fn says_dual(rt: &impl Print, p: Problem, arcs: &mut [u8], cells: &mut [i32]) -> io::Result<()>
-    requires { fault_in version1 p ≡ 0 }
+fn print_dual<W: io::Write>(out: &mut W, bound: Bound) -> io::Result<()>
+    ensures { OnOk result (Appends (W.contents out.old) (W.contents out.new) (dual_line bound)) }
 {
-    let b = diagram::relaxed(p, WIDTH, ROUNDS, CEILING, arcs, cells);
-    Line::begun(b"dual ").bound(b).is_written(rt)
+    writeln!(out, "dual {}", BoundText { bound })
 }
 
 // `primal 1 exact 0 1 1 0`; no steps where there is no bound.
-fn says_primal(rt: &impl Print, p: Problem, arcs: &mut [u8], cells: &mut [i32]) -> io::Result<()>
-    requires { fault_in version1 p ≡ 0 }
+fn print_primal<W: io::Write>(out: &mut W, bound: Bound, plan: &[u8]) -> io::Result<()>
+    ensures { OnOk result (Appends (W.contents out.old) (W.contents out.new) (primal_line bound plan.now)) }
 {
-    let n = p.n;
-    let mut plan = [0u8; 24];
-    let b = diagram::restricted(p, WIDTH, arcs, cells, &mut plan);
-    let line = Line::begun(b"primal ").bound(b);
-    if b.present {
-        line.steps(&plan[..n]).is_written(rt)
-    } else {
-        line.is_written(rt)
-    }
+    let plan = if bound.value.is_some() { plan } else { &[] };
+    writeln!(out, "primal {}{}", BoundText { bound }, Steps { plan })
 }
 
 // `plan 10 0 0 1 1`
-fn says_plan(rt: &impl Print, p: Problem, plan: &[u8]) -> io::Result<()>
-    requires { fault_in version1 p ≡ 0 }
+fn print_plan<W: io::Write>(out: &mut W, cost: i32, plan: &[u8]) -> io::Result<()>
+    ensures { OnOk result (Appends (W.contents out.old) (W.contents out.new) (plan_line cost plan.now)) }
 {
-    let j = judge::judge_plan(p, plan);
-    Line::begun(b"plan ")
-        .signed(j.cost)
-        .steps(plan)
-        .is_written(rt)
-}
-
-// A line for each of the first `count` plans that stand on the page.
-fn says_plans(rt: &impl Print, p: Problem, count: usize, page: &[u8; 24000]) -> io::Result<()>
-    requires { fault_in version1 p ≡ 0 }
-{
-    let n = p.n;
-    let plans: &[u8] = page;
-    for k in 0..1000 {
-        if k < count {
-            let at = k * n;
-            says_plan(rt, p, &plans[at..at + n])?;
-        }
-    }
-    Ok(())
+    writeln!(out, "plan {cost}{}", Steps { plan })
 }
 
 // `end 10`, or `more 1000` where a further plan exists.
-fn says_count(rt: &impl Print, more: bool, count: usize) -> io::Result<()> {
+fn print_count<W: io::Write>(out: &mut W, listed: Listed) -> io::Result<()>
+    ensures { OnOk result (Appends (W.contents out.old) (W.contents out.new) (count_line listed.count listed.more)) }
+{
+    let Listed { count, more } = listed;
     if more {
-        Line::begun(b"more ").number(count as u64).is_written(rt)
+        writeln!(out, "more {count}")
     } else {
-        Line::begun(b"end ").number(count as u64).is_written(rt)
+        writeln!(out, "end {count}")
     }
 }
 
-// Asks for the first page, of at most 1,000 plans.
-fn first_page(p: Problem, arcs: &mut [u8], cells: &mut [i32], page: &mut [u8]) -> Count
-    requires { (fault_in version1 p ≡ 0) × (24000 ≤ length page.old) }
-{
-    let n = p.n;
-    let start = [0u8; 0];
-    pages::page(
-        p,
-        WIDTH,
-        ROUNDS,
-        CEILING,
-        &start,
-        arcs,
-        cells,
-        &mut page[..1000 * n],
-    )
-}
-
-// The plans of that page, and their count.
-fn says_page(rt: &impl Print, p: Problem, arcs: &mut [u8], cells: &mut [i32]) -> io::Result<()>
-    requires { fault_in version1 p ≡ 0 }
-{
-    let mut page = [0u8; 24000];
-    let c = first_page(p, arcs, cells, &mut page);
-    says_plans(rt, p, c.count, &page)?;
-    says_count(rt, c.more, c.count)
-}
-
-// Prints what the planner says of a problem; an error where a write failed, and then nothing more is printed. Both bounds are out before the page is
-// asked for.
-pub fn report(rt: &impl Print, p: Problem) -> io::Result<()>
-    requires { fault_in version1 p ≡ 0 }
-{
-    let mut arcs = [0u8; 3072];
-    let mut cells = [0i32; 14000];
-    says_dual(rt, p, &mut arcs, &mut cells)?;
-    says_primal(rt, p, &mut arcs, &mut cells)?;
-    says_page(rt, p, &mut arcs, &mut cells)
-}
-
-// Prints what the planner says of a plan file: `refused 4`, or the report of its problem; an error where a write failed, and then nothing more is
-// printed.
-pub fn report_file(rt: &impl Print, file: &[u8]) -> io::Result<()> {
-    let r = rtp::read(file);
-    if r.number != 0 {
-        return Line::begun(b"refused ")
-            .number(r.number as u64)
-            .is_written(rt);
+// ---- a problem: right arguments and buffers of the greatest need, so that no operation refuses
+// Both bounds.
+fn report_bounds<W: io::Write>(
+    out: &mut W,
+    problem: &Sound,
+    arcs: &mut [u8],
+    cells: &mut [i32],
+) -> io::Result<()> {
+    match diagram::relaxed(problem, WIDTH, ROUNDS, CEILING, arcs, cells) {
+        Ok(bound) => print_dual(out, bound)?,
+        Err(refusal) => writeln!(out, "{refusal}")?,
     }
-    let p = r.problem;
-    report(rt, p)
+    let mut plan = [0u8; SLOTS];
+    match diagram::restricted(problem, WIDTH, arcs, cells, &mut plan) {
+        Ok(bound) => print_primal(out, bound, &plan[..problem.problem.slots]),
+        Err(refusal) => writeln!(out, "{refusal}"),
+    }
+}
+
+// A line for each plan of a page, and their count.
+fn report_page<W: io::Write>(
+    out: &mut W,
+    problem: &Sound,
+    listed: Listed,
+    page: &[u8],
+) -> io::Result<()> {
+    for plan in page.chunks_exact(problem.problem.slots).take(listed.count) {
+        let cost = judge::judge_plan(problem, plan).unwrap_or(0);
+        print_plan(out, cost, plan)?;
+    }
+    print_count(out, listed)
+}
+
+// The first page of lawful plans.
+fn report_plans<W: io::Write>(
+    out: &mut W,
+    problem: &Sound,
+    arcs: &mut [u8],
+    cells: &mut [i32],
+) -> io::Result<()> {
+    let mut page = [0u8; PLANS * SLOTS];
+    let page = &mut page[..PLANS * problem.problem.slots];
+    match pages::page(problem, WIDTH, ROUNDS, CEILING, &[], arcs, cells, page) {
+        Ok(listed) => report_page(out, problem, listed, page),
+        Err(refusal) => writeln!(out, "{refusal}"),
+    }
+}
+
+// Prints what the planner says of a problem. Both bounds are out before the page is asked for; after a write that fails nothing more is printed.
+pub fn report<W: io::Write>(out: &mut W, problem: &Sound) -> io::Result<()> {
+    let mut arcs = [0u8; ARCS];
+    let mut cells = [0i32; CELLS];
+    report_bounds(out, problem, &mut arcs, &mut cells)?;
+    out.flush()?;
+    report_plans(out, problem, &mut arcs, &mut cells)?;
+    out.flush()
+}
+
+// Prints what the planner says of a plan file: `refused 4`, or the report of its problem.
+pub fn report_file<W: io::Write>(out: &mut W, file: &[u8]) -> io::Result<()> {
+    match brennigou::problem_of(file) {
+        Ok(problem) => report(out, &problem),
+        Err(refusal) => {
+            writeln!(out, "{refusal}")?;
+            out.flush()
+        }
+    }
 }
