@@ -53,6 +53,16 @@ fn layer_down(w: usize, row: &[i32], here: &[i32], arcs: &[u8], next: &mut [i32]
     }
 }
 
+// Lanes copied to others. By a loop: with `copy_from_slice` the archive asks C for `memmove`.
+fn copy(from: &[i32], to: &mut [i32])
+    requires { length from.now ≡ length to.old }
+    ensures { to.new ≡ from.now }
+{
+    for (k, lane) in to.iter_mut().enumerate() {
+        *lane = from[k];
+    }
+}
+
 // The row of one layer becomes that of the next, by the arcs between them; `spare` is room to work in.
 pub fn next_down(w: usize, row: &[i32], here: &mut [i32], arcs: &[u8], spare: &mut [i32])
     requires { (w ≤ 16) × Slot row.now × Row here.old × (drop (w * 17) here.old ≡ replicate ((16 - w) * 17) (pos 4000000))
@@ -63,7 +73,7 @@ pub fn next_down(w: usize, row: &[i32], here: &mut [i32], arcs: &[u8], spare: &m
     let front = w * LANES;
     spare[..front].fill(FAR);
     layer_down(w, row, here, arcs, spare);
-    here[..front].copy_from_slice(&spare[..front]);
+    copy(&spare[..front], &mut here[..front]);
 }
 
 // Every cell zero.

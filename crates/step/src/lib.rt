@@ -69,6 +69,10 @@ fn may_keep<'a>(
         let low = cells[at + 4 * r + 3];
         let high = cells[at + 4 * r + 4];
         if !may_keep_rule(totals[r], low, high, coefs[LEASTS + r], coefs[MOSTS + r]) {
+            // eight, a count that the compiler knows, are tested quicker without a way out
+            if m < RULES {
+                return false;
+            }
             kept = false;
         }
     }
@@ -137,6 +141,16 @@ pub fn goes<'a>(
 }
 
 // ---- the page
+// Steps copied to their place. By a loop: with `copy_from_slice` the archive asks C for `memmove`.
+fn copy(from: &[u8], to: &mut [u8])
+    requires { length from.now ≡ length to.old }
+    ensures { to.new ≡ from.now }
+{
+    for (k, place) in to.iter_mut().enumerate() {
+        *place = from[k];
+    }
+}
+
 // A plan comes by, after `seen` others: laid on the page where there is room.
 pub fn put(plan: &[u8; SLOTS], n: usize, cap: usize, page: &mut [u8], seen: usize) -> usize
     requires { (n ≤ 24) × (seen ≤ cap) × (cap * n ≤ length page.old) × (cap ≤ length page.old) × (n ≤ length plan.now) }
@@ -145,7 +159,7 @@ pub fn put(plan: &[u8; SLOTS], n: usize, cap: usize, page: &mut [u8], seen: usiz
 {
     if seen < cap {
         let at = seen * n;
-        page[at..at + n].copy_from_slice(&plan[..n]);
+        copy(&plan[..n], &mut page[at..at + n]);
     }
     seen + 1
 }

@@ -16,6 +16,6 @@ returns c =
     let rest = drop (a.w * 17) a.spare.now in
     let cleared : c.fill.new.self ≡ replicate (a.w * 17) (pos 4000000) = c.fill.ensures.after (λ y e. e) ∙ ap (λ n. replicate n (pos 4000000)) (length-take-le (a.w * 17) a.spare.now (omega (arith, p.0, p.6.long))) in
     let brought = c.layer_down.ensures ∙ ap (λ l. bring_layer row here 0 (parted a.w 8 arcs) (l ++ rest)) cleared in record {
-      here_after = next_row row here p.1 p.2 a.w p.0 arcs p.4 p.5 rest brought (ap (λ l. l ++ drop (a.w * 17) here) c.copy_from_slice.ensures.after) p.3;
+      here_after = next_row row here p.1 p.2 a.w p.0 arcs p.4 p.5 rest brought (ap (λ l. l ++ drop (a.w * 17) here) c.copy.ensures) p.3;
       spare = blank_spare row here p.1 p.2 a.w p.0 arcs p.4 p.5 rest (spare_blank a.w p.0 p.6 refl) brought;
     }
