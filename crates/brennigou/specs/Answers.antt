@@ -1,11 +1,12 @@
 -- What do the answers from a file say in the paper's words?
-use Rattle.std.specs.Prelude.{List, false, ℕ, ℤ, pos, Option, Result, Ok, Err}
+use Rattle.std.specs.Prelude.{List, false, ℕ, ℤ, pos, Option, Result, Ok, Err, ⊤}
 use Rattle.meaning.specs.Plan.{Campaign}
 use Rattle.meaning.specs.File.{read_of}
 use Rattle.meaning.specs.Calls.{opened}
 use Rattle.meaning.specs.Calls as paper
 use Rattle.refusal.specs.declared.Refusal.{Refusal}
 use Rattle.refusal.specs.Refusals.{number_of}
+use Rattle.problem.specs.declared.Problem.{Problem}
 use Rattle.problem.specs.declared.sound.Sound.{Sound}
 use Rattle.problem.specs.Held.{campaign_of}
 use Rattle.judge.specs.Answers.{judged_as}
@@ -24,6 +25,11 @@ campaign_read f = opened (read_of f) Err Ok
 abbrev pub campaign_told : Result Sound Refusal → Result Campaign ℕ
 campaign_told (Ok s) = Ok (campaign_of s.problem)
 campaign_told (Err e) = Err (number_of e)
+
+-- the same of a problem that is lent
+abbrev pub campaign_laid : Result ⊤ Refusal → Problem → Result Campaign ℕ
+campaign_laid (Ok u) p = Ok (campaign_of p)
+campaign_laid (Err e) p = Err (number_of e)
 
 -- the judge's answer, or the refusal's number
 abbrev pub judge_answer : Result (Option ℤ) Refusal → paper.Judged

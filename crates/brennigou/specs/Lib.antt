@@ -1,3 +1,4 @@
 -- What the contracts cite.
 pub mod Answers
 pub mod Handed
+pub mod Out

@@ -2,4 +2,5 @@
 pub mod Parts
 pub mod Bodies
 pub mod Rules
+pub mod Accepted
 pub mod Cases

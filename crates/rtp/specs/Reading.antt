@@ -1,5 +1,5 @@
 -- What does the reader hand back, in the words of the meanings?
-use Rattle.std.specs.Prelude.{List, [], map, ℕ, take, drop, Result, Ok, Err}
+use Rattle.std.specs.Prelude.{List, [], map, ℕ, take, drop, Result, Ok, Err, ⊤}
 use Rattle.laws.specs.Lists.{padded}
 use Rattle.meaning.specs.Problem.{most_rules, Said, version1}
 use Rattle.meaning.specs.File.{Got, refused, got, Reader, ◌>>=◌, little, signed, part, kind_next}
@@ -55,7 +55,21 @@ pub record Reading : Type 0 where
 abbrev pub read_as : Read → Reading
 read_as r = record { number = r.number; problem = held r.problem }
 
+-- a problem that says nothing: all zero
+abbrev pub said_nothing : Problem
+said_nothing = held (record { sets = []; weights = []; rules = [] })
+
 -- what the code hands back
 abbrev pub reading_of : Result Problem Refusal → Reading
 reading_of (Ok p) = record { number = 0; problem = p }
-reading_of (Err e) = record { number = number_of e; problem = held (record { sets = []; weights = []; rules = [] }) }
+reading_of (Err e) = record { number = number_of e; problem = said_nothing }
+
+-- the same of a problem that is lent, whatever it holds after a refusal
+abbrev pub filled_of : Result ⊤ Refusal → Problem → Reading
+filled_of (Ok u) p = reading_of (Ok p)
+filled_of (Err e) p = reading_of (Err e)
+
+-- the same with what it holds
+abbrev pub reading_in : Result ⊤ Refusal → Problem → Reading
+reading_in (Ok u) p = record { number = 0; problem = p }
+reading_in (Err e) p = record { number = number_of e; problem = p }

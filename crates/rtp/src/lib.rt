@@ -9,16 +9,26 @@ ghost use Rattle.problem.specs.declared.TheConstants.{SLOTS};
 ghost use Rattle.problem.specs.declared.Terms.TheVariants.{Neither};
 ghost use Rattle.problem.specs.Held.{no_bounds};
 ghost use Rattle.cursor.specs.Fields.{got_of, field_next};
-ghost use Rattle.rtp.specs.Reading.{rule_next, bounds_said, onto, parts_of, all_parts, both_of, laid_of, read_as, reading_of};
+ghost use Rattle.rtp.specs.Reading.{rule_next, bounds_said, onto, parts_of, all_parts, both_of, laid_of, said_nothing, read_as, reading_of, filled_of, reading_in};
 
 use cursor::Cursor;
-use problem::{Bounds, Problem, RULES, Terms};
+use problem::{Bounds, Problem, RULES, SLOTS, Terms};
 use refusal::Refusal;
 
 // The letters that a plan file begins with, and its version.
 pub const MARK: [u8; 3] = *b"RTP";
 
 const VERSION: u16 = 1;
+
+// A problem that says nothing: all zero.
+pub const NOTHING: Problem = Problem {
+    slots: 0,
+    rules: 0,
+    sets: [0; SLOTS],
+    weights: [0; SLOTS],
+    terms: [Terms::Neither; RULES],
+    bounds: [Bounds { lb: 0, ub: 0 }; RULES],
+};
 
 // lb and ub.
 fn bounds_at(cursor: Cursor<'_>) -> Result<(Bounds, Cursor<'_>), Refusal>
@@ -94,9 +104,11 @@ fn rules_at<'a>(
     Ok(next)
 }
 
-// Behind the head: n step sets, n weights, m rules, and nothing after them.
-fn sections(cursor: Cursor<'_>, n: usize, m: usize) -> Result<Problem, Refusal>
-    ensures { reading_of result ≡ read_as (read_answer (problem_next version1 n m cursor.entry.rest.now)) }
+// Behind the head: n step sets, n weights, m rules, and nothing after them, into a problem that says nothing yet. It is lent, since a problem is 1 KB
+// and each hand-over of it by value a copy.
+fn sections(cursor: Cursor<'_>, n: usize, m: usize, problem: &mut Problem) -> Result<(), Refusal>
+    requires nothing { problem.old ≡ said_nothing }
+    ensures { filled_of result problem.new ≡ read_as (read_answer (problem_next version1 n m cursor.entry.rest.now)) }
 {
     if !problem::head_is_right(n, m) {
         return Err(Refusal::WrongSize);
@@ -109,24 +121,21 @@ fn sections(cursor: Cursor<'_>, n: usize, m: usize) -> Result<Problem, Refusal>
     if !problem::weights_are_right(&weights[..n]) {
         return Err(Refusal::WrongSlot);
     }
-    let mut problem = Problem {
-        slots: n,
-        rules: m,
-        sets,
-        weights,
-        terms: [Terms::Neither; RULES],
-        bounds: [Bounds { lb: 0, ub: 0 }; RULES],
-    };
+    problem.slots = n;
+    problem.rules = m;
+    problem.sets = sets;
+    problem.weights = weights;
     let next = rules_at(next, n, m, &mut problem.terms, &mut problem.bounds)?;
     if !next.rest.is_empty() {
         return Err(Refusal::BytesLeft);
     }
-    Ok(problem)
+    Ok(())
 }
 
-// What a plan file says.
-pub fn read(file: &[u8]) -> Result<Problem, Refusal>
-    ensures { reading_of result ≡ read_as (read file.now) }
+// The fields of a plan file, into a problem that says nothing yet. What it has after a refusal is open.
+fn fill(file: &[u8], problem: &mut Problem) -> Result<(), Refusal>
+    requires nothing { problem.old ≡ said_nothing }
+    ensures { filled_of result problem.new ≡ read_as (read file.now) }
 {
     let ([r, t, p, low, high, slots, rules], next) = Cursor { rest: file }.array::<7>()?;
     if [r, t, p] != MARK {
@@ -135,5 +144,27 @@ pub fn read(file: &[u8]) -> Result<Problem, Refusal>
     if u16::from_le_bytes([low, high]) != VERSION {
         return Err(Refusal::WrongVersion);
     }
-    sections(next, usize::from(slots), usize::from(rules))
+    sections(next, usize::from(slots), usize::from(rules), problem)
+}
+
+// What a plan file says, into a problem that says nothing; after a refusal it says nothing again. Not inlined, so that the archive has it once.
+#[inline(never)]
+pub fn read_into(file: &[u8], problem: &mut Problem) -> Result<(), Refusal>
+    requires nothing { problem.old ≡ said_nothing }
+    ensures { reading_in result problem.new ≡ read_as (read file.now) }
+{
+    let answer = fill(file, problem);
+    if answer.is_err() {
+        *problem = NOTHING;
+    }
+    answer
+}
+
+// What a plan file says.
+pub fn read(file: &[u8]) -> Result<Problem, Refusal>
+    ensures { reading_of result ≡ read_as (read file.now) }
+{
+    let mut problem = NOTHING;
+    read_into(file, &mut problem)?;
+    Ok(problem)
 }

@@ -1,15 +1,14 @@
 -- `restricted` meets its contract: the diagram and the plan shown are those of what the file says.
-use Rattle.std.proofs.Common.{◌≡◌, sym, ap, ◌∙◌}
+use Rattle.std.proofs.Common.{◌≡◌, ap, ◌∙◌}
 use Rattle.meaning.specs.Calls.{Bound, Done, restricted_of, restricted_call}
 use Rattle.problem.specs.Held.{campaign_of}
 use Rattle.diagram.specs.Answers.{lent_of}
-use Rattle.brennigou.specs.Answers.{campaign_told}
 use Rattle.brennigou.proofs.Opened.{restricted_read}
 use Rattle.brennigou.proofs.restricted.Goals as goal
 use Rattle.brennigou.proofs.restricted.Goals.{After-restricted}
 
-asked : (c : After-restricted) → let l = lent_of c.args.arcs.now c.args.cells.now c.args.plan.now in restricted_of (campaign_of c.in-Ok.problem.problem) c.args.width l ≡ restricted_call c.args.file.now c.args.width l
-asked c = restricted_read c.args.file.now (ap campaign_told (sym c.in-Ok.is) ∙ c.problem_of.ensures.campaign) c.args.width (lent_of c.args.arcs.now c.args.cells.now c.args.plan.now)
+asked : (c : After-restricted) → let l = lent_of c.args.arcs.now c.args.cells.now c.args.plan.now in restricted_of (campaign_of c.problem_into.new.problem) c.args.width l ≡ restricted_call c.args.file.now c.args.width l
+asked c = restricted_read c.args.file.now c.in-Ok.ensures.campaign c.args.width (lent_of c.args.arcs.now c.args.cells.now c.args.plan.now)
 
 pub returns-in-Ok-clause-answer : goal.returns-in-Ok-clause-answer
 returns-in-Ok-clause-answer c = c.restricted.ensures.answer ∙ ap (λ (d : Done Bound). d.answer) (asked (goal.at.returns-in-Ok-clause-answer c).After-restricted)

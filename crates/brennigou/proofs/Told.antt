@@ -12,20 +12,22 @@ use Rattle.std.specs.Prelude.{Ok, Err, Option, Some, None}
 use Rattle.std.specs.Option.{is_some, unwrap_or}
 use Rattle.laws.specs.Lists.{from}
 use Rattle.laws.proofs.Lists.{length_from}
-use Rattle.meaning.specs.Plan.{slots}
+use Rattle.meaning.specs.Plan.{Campaign, slots}
 use Rattle.meaning.specs.Problem.{rule_of, first_fault}
 use Rattle.meaning.specs.Problem as paper
 use Rattle.meaning.specs.File.{Got, refused, got, read_of}
-use Rattle.meaning.specs.Calls.{Judged, unless, judge}
-use Rattle.meaning.specs.Interface.{Told, untold, told, unlent, flag, short_out, judge_told}
+use Rattle.meaning.specs.Buffers.{arcs_need, cells_need}
+use Rattle.meaning.specs.Calls.{Judged, unless, judge, wrong_width}
+use Rattle.meaning.specs.Interface.{Told, untold, told, unlent, flag, short_out, needs_told, judge_told}
 use Rattle.meaning.proofs.Rows.{refused_range}
 use Rattle.refusal.specs.declared.Refusal.{Refusal}
 use Rattle.refusal.specs.Refusals.{number_of}
 use Rattle.problem.specs.declared.Problem.{Problem}
 use Rattle.problem.specs.Held.{said_at, campaign_of}
 use Rattle.judge.specs.Answers.{judged_as}
-use Rattle.brennigou.specs.Answers.{judge_answer}
-use Rattle.brennigou_c.proofs.Cells.{unless_no, unless_yes}
+use Rattle.brennigou.specs.Answers.{campaign_read, judge_answer}
+use Rattle.brennigou.proofs.Opened.{opened_as}
+use Rattle.brennigou.proofs.Cells.{unless_no, unless_yes}
 
 -- no refusal has number 0
 pub some_number : (x : Refusal) → number_of x ≡ 0 → ⊥
@@ -39,6 +41,13 @@ judged_number None = refl
 pub judged_cells : (a : Option ℤ) → (flag (is_some a) ≡ flag (judged_as a).lawful) × (unwrap_or a (pos 0) ≡ (judged_as a).cost)
 judged_cells (Some z) = (refl, refl)
 judged_cells None = (refl, refl)
+
+-- ---- the needs of a refused file: its number
+pub needs_refused : (f : List ℕ) (w : ℕ) (o : List ℤ) (x : Refusal) → Err (number_of x) ≡ campaign_read f → number_of x ≡ (needs_told f w o).number
+needs_refused f w o x e = sym (ap (λ (t : Told). t.number) (opened_as f (untold unlent o) done e))
+  where
+    done : Campaign → Told
+    done q = unless (first_fault ((8, wrong_width w) ∷ (11, short_out 4 o) ∷ [])) (untold unlent o) (told unlent o (pos (slots q) ∷ pos (length q.rules) ∷ pos (arcs_need q w) ∷ pos (cells_need q w) ∷ []))
 
 -- ---- the judge: 11 behind the file's own number
 module _ (f p : List ℕ) (o : List ℤ) where

@@ -27,8 +27,8 @@ use Rattle.meaning.proofs.Order.{lawful_allowed, allowed_length}
 use Rattle.meaning.proofs.Pages.{listed_are}
 use Rattle.diagram.proofs.Refused.{numbers_right}
 use Rattle.diagram.specs.Answers.{lent_of}
-use Rattle.brennigou_c.proofs.Cells.{unless_no, unless_yes}
-use Rattle.brennigou_c.proofs.Lent.{Head, calls_agree, part, part_all, rest_none, short_part, or_right, or_swap}
+use Rattle.brennigou.proofs.Cells.{unless_no, unless_yes}
+use Rattle.brennigou.proofs.Lent.{Head, calls_agree, part, part_all, rest_none, short_part, or_right, or_swap}
 
 -- ---- a page: of its bytes u are used, and the rest is zero
 abbrev pub page_tells : List ℤ → List ℕ → List ℤ → List ℕ → ℕ → Done Count → Told

@@ -5,8 +5,8 @@ use Rattle.meaning.specs.Plan.{slots}
 use Rattle.meaning.specs.Problem.{version1}
 use Rattle.problem.specs.Held.{campaign_of}
 use Rattle.problem.proofs.Faultless.{right}
-use Rattle.brennigou_c.proofs.Told.{slots_are, rules_are, few_bytes, few_cells}
-use Rattle.brennigou_c.proofs.needs_of.Goals as goal
+use Rattle.brennigou.proofs.Told.{slots_are, rules_are, few_bytes, few_cells}
+use Rattle.brennigou.proofs.needs_of.Goals as goal
 
 pub returns : goal.returns
 returns c =

@@ -4,8 +4,8 @@ use Rattle.laws.specs.Z.{told}
 use Rattle.laws.specs.Lists.{padded}
 use Rattle.meaning.specs.Interface.{Told, flag}
 use Rattle.judge.specs.Answers.{judged_as}
-use Rattle.brennigou_c.proofs.Told.{judge_no, judge_short, judge_yes, judged_cells}
-use Rattle.brennigou_c.proofs.brennigou_judge.Goals as goal
+use Rattle.brennigou.proofs.Told.{judge_no, judge_short, judge_yes, judged_cells}
+use Rattle.brennigou.proofs.brennigou_judge.Goals as goal
 
 pub returns-in-Err-clause-value : goal.returns-in-Err-clause-value
 returns-in-Err-clause-value c = c.number.ensures ∙ ap (λ (u : Told). u.number) (sym (judge_no c.args.file.now c.args.plan.now c.args.out.now c.in-Err.refusal c.in-Err.ensures))

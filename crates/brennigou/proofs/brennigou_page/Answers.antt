@@ -16,11 +16,11 @@ use Rattle.laws.specs.Lists.{padded}
 use Rattle.meaning.specs.Calls.{Lent, Count, page_call}
 use Rattle.meaning.specs.Interface.{short_out, used_page, page_told}
 use Rattle.diagram.specs.Answers.{lent_of}
-use Rattle.brennigou_c.proofs.Lent.{part}
-use Rattle.brennigou_c.proofs.Paged.{used, page_tells, page_told_lem, page_count, page_no, page_yes, zeroed_rest}
-use Rattle.brennigou_c.proofs.Told.{some_number}
-use Rattle.brennigou_c.proofs.brennigou_page.Goals as goal
-use Rattle.brennigou_c.proofs.brennigou_page.Goals.{After-page-answer}
+use Rattle.brennigou.proofs.Lent.{part}
+use Rattle.brennigou.proofs.Paged.{used, page_tells, page_told_lem, page_count, page_no, page_yes, zeroed_rest}
+use Rattle.brennigou.proofs.Told.{some_number}
+use Rattle.brennigou.proofs.brennigou_page.Goals as goal
+use Rattle.brennigou.proofs.brennigou_page.Goals.{After-page-answer}
 
 -- what is lent, and how much of it
 module _ (c : After-page-answer) where

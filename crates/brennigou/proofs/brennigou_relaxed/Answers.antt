@@ -6,8 +6,8 @@ use lib.IntN.{ℤ}
 use mir.Facts.{to_z-of_z}
 use Rattle.meaning.specs.Calls.{relaxed_call}
 use Rattle.diagram.specs.Answers.{lent_of}
-use Rattle.brennigou_c.proofs.Lent.{part, bound_tells, bound_told_lem, relaxed_told_lem}
-use Rattle.brennigou_c.proofs.brennigou_relaxed.Goals as goal
+use Rattle.brennigou.proofs.Lent.{part, bound_tells, bound_told_lem, relaxed_told_lem}
+use Rattle.brennigou.proofs.brennigou_relaxed.Goals as goal
 
 pub returns : goal.returns
 returns c =

@@ -1,7 +1,7 @@
 -- `brennigou_restricted` meets its contract: what is told is what `restricted` does on the parts that are lent, the rest as it was.
 use Rattle.diagram.specs.Answers.{lent_of}
-use Rattle.brennigou_c.proofs.Lent.{bound_told_lem, restricted_told_lem}
-use Rattle.brennigou_c.proofs.brennigou_restricted.Goals as goal
+use Rattle.brennigou.proofs.Lent.{bound_told_lem, restricted_told_lem}
+use Rattle.brennigou.proofs.brennigou_restricted.Goals as goal
 
 pub returns : goal.returns
 returns c =

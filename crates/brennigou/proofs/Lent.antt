@@ -26,8 +26,8 @@ use Rattle.problem.proofs.Again.{accepted_held}
 use Rattle.problem.proofs.Faultless.{right}
 use Rattle.diagram.proofs.Refused.{width_right, numbers_right, short_arcs}
 use Rattle.diagram.specs.Answers.{lent_of}
-use Rattle.brennigou_c.specs.Out.{bound_out}
-use Rattle.brennigou_c.proofs.Cells.{unless_yes}
+use Rattle.brennigou.specs.Out.{bound_out}
+use Rattle.brennigou.proofs.Cells.{unless_yes}
 
 -- n and m are in their ranges
 abbrev pub Head : paper.Problem → Type 0
