@@ -8,7 +8,6 @@ ghost use Rattle.planner.specs.Sample.{case_a};
 
 use problem::{Bounds, Problem, RULES, SLOTS, Sound, Terms};
 use std::io;
-use std::io::BufWriter;
 
 // ---- the problem that is built in: five slots with the steps 0 and 1, and at most one step 1 in each of six pairs of them
 const WEIGHTS: [i32; 5] = [-5, -4, -2, -6, -8];
@@ -83,7 +82,7 @@ fn sample() -> Sound
 fn main(rt: HostRuntime) -> io::Result<()> {
     let mut input = [0u8; input::ROOM];
     let file = input::fill(&mut rt.reader(), &mut input)?;
-    let mut out = BufWriter::new(rt.alloc(), io::writer(&rt))?;
+    let mut out = io::writer(&rt);
     if file.is_empty() {
         report::report(&mut out, &sample())
     } else {

@@ -1,6 +1,8 @@
 -- What does the planner print, byte for byte?
 use Rattle.std.specs.Prelude.{List, [], ◌∷◌, ◌++◌, Bool, true, false, ℕ, codes, flat_map, ℤ, Option, Some, None}
 use Rattle.std.specs.Fmt.{decimal, signed_decimal}
+use Rattle.refusal.specs.declared.Refusal.{Refusal}
+use Rattle.refusal.specs.Refusals.{words_of}
 use Rattle.diagram.specs.declared.Bound.{Bound}
 
 -- a missing bound is `none`
@@ -42,3 +44,7 @@ plan_line cost plan = codes "plan " ++ (signed_decimal cost ++ (steps_text plan 
 abbrev pub count_line : ℕ → Bool → List ℕ
 count_line count true = codes "more " ++ (decimal count ++ 10 ∷ [])
 count_line count false = codes "end " ++ (decimal count ++ 10 ∷ [])
+
+-- `refused 4`
+abbrev pub refusal_line : Refusal → List ℕ
+refusal_line r = words_of r ++ 10 ∷ []

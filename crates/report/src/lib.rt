@@ -1,12 +1,17 @@
 // What the planner prints for a problem or a plan file: both bounds, the lawful plans, and how many there are.
+// Each line goes out by one write as soon as it is known, and a write that fails ends the report.
 #![tactic(auto)]
 
-ghost use Rattle.std.specs.Prelude.{◌≡◌, ◌*◌, ◌≤◌, OnOk, Some, length, slice_index_or};
+ghost use Rattle.std.specs.Prelude.{◌≡◌, ◌++◌, ◌*◌, ◌≤◌, IfSome, OnOk, Some, codes, length, slice_index_or};
+ghost use Rattle.std.specs.Fmt.{decimal};
 ghost use Rattle.std.specs.Io.KnownBytes.{Appends};
-ghost use Rattle.report.specs.Lines.{bound_text, steps_text, dual_line, primal_line, plan_line, count_line};
+ghost use Rattle.report.specs.Lines.{bound_text, steps_text, dual_line, primal_line, plan_line, count_line, refusal_line};
 
+use arrayvec::ArrayVec;
 use diagram::Bound;
 use problem::{SLOTS, Sound};
+use refusal::Refusal;
+use std::io::Write;
 use std::{fmt, io};
 use step::Listed;
 
@@ -25,7 +30,10 @@ const ARCS: usize = 3072;
 
 const CELLS: usize = 14_000;
 
-// ---- the lines
+// Room for more than the longest line, a primal of 24 slots, which has 70 bytes.
+const LINE: usize = 80;
+
+// ---- the lines, each gathered before it is written
 // A bound, and whether the diagram is exact: `-3 exact`, `none open`.
 #[derive(Clone, Copy)]
 struct BoundText {
@@ -44,6 +52,23 @@ impl fmt::Display for BoundText {
     }
 }
 
+// A step behind its blank, in one piece where it is one of the eight: a piece costs more than the digit.
+fn text_of(step: u8) -> Option<&'static str>
+    ensures { IfSome result (λ text. text.now ≡ codes " " ++ decimal step) }
+{
+    match step {
+        0 => Some(" 0"),
+        1 => Some(" 1"),
+        2 => Some(" 2"),
+        3 => Some(" 3"),
+        4 => Some(" 4"),
+        5 => Some(" 5"),
+        6 => Some(" 6"),
+        7 => Some(" 7"),
+        _ => None,
+    }
+}
+
 // The steps of a plan: ` 0 1 1 0`.
 #[derive(Clone, Copy)]
 struct Steps<'a> {
@@ -55,7 +80,10 @@ impl fmt::Display for Steps<'_> {
 
     fn fmt<W: fmt::Write>(&self, f: &mut fmt::Formatter<W>) -> fmt::Result {
         for step in self.plan {
-            write!(f, " {step}")?;
+            match text_of(*step) {
+                Some(text) => f.write_str(text)?,
+                None => write!(f, " {step}")?,
+            }
         }
         Ok(())
     }
@@ -65,7 +93,9 @@ impl fmt::Display for Steps<'_> {
 fn print_dual<W: io::Write>(out: &mut W, bound: Bound) -> io::Result<()>
     ensures { OnOk result (Appends (W.contents out.old) (W.contents out.new) (dual_line bound)) }
 {
-    writeln!(out, "dual {}", BoundText { bound })
+    let mut line = ArrayVec::<u8, LINE>::new();
+    writeln!(line, "dual {}", BoundText { bound })?;
+    out.write_all(&line)
 }
 
 // `primal 1 exact 0 1 1 0`; no steps where there is no bound.
@@ -73,14 +103,18 @@ fn print_primal<W: io::Write>(out: &mut W, bound: Bound, plan: &[u8]) -> io::Res
     ensures { OnOk result (Appends (W.contents out.old) (W.contents out.new) (primal_line bound plan.now)) }
 {
     let plan = if bound.value.is_some() { plan } else { &[] };
-    writeln!(out, "primal {}{}", BoundText { bound }, Steps { plan })
+    let mut line = ArrayVec::<u8, LINE>::new();
+    writeln!(line, "primal {}{}", BoundText { bound }, Steps { plan })?;
+    out.write_all(&line)
 }
 
 // `plan 10 0 0 1 1`
 fn print_plan<W: io::Write>(out: &mut W, cost: i32, plan: &[u8]) -> io::Result<()>
     ensures { OnOk result (Appends (W.contents out.old) (W.contents out.new) (plan_line cost plan.now)) }
 {
-    writeln!(out, "plan {cost}{}", Steps { plan })
+    let mut line = ArrayVec::<u8, LINE>::new();
+    writeln!(line, "plan {cost}{}", Steps { plan })?;
+    out.write_all(&line)
 }
 
 // `end 10`, or `more 1000` where a further plan exists.
@@ -88,11 +122,22 @@ fn print_count<W: io::Write>(out: &mut W, listed: Listed) -> io::Result<()>
     ensures { OnOk result (Appends (W.contents out.old) (W.contents out.new) (count_line listed.count listed.more)) }
 {
     let Listed { count, more } = listed;
+    let mut line = ArrayVec::<u8, LINE>::new();
     if more {
-        writeln!(out, "more {count}")
+        writeln!(line, "more {count}")?;
     } else {
-        writeln!(out, "end {count}")
+        writeln!(line, "end {count}")?;
     }
+    out.write_all(&line)
+}
+
+// `refused 4`
+fn print_refusal<W: io::Write>(out: &mut W, refusal: Refusal) -> io::Result<()>
+    ensures { OnOk result (Appends (W.contents out.old) (W.contents out.new) (refusal_line refusal)) }
+{
+    let mut line = ArrayVec::<u8, LINE>::new();
+    writeln!(line, "{refusal}")?;
+    out.write_all(&line)
 }
 
 // ---- a problem: right arguments and buffers of the greatest need, so that no operation refuses
@@ -105,12 +150,12 @@ fn report_bounds<W: io::Write>(
 ) -> io::Result<()> {
     match diagram::relaxed(problem, WIDTH, ROUNDS, CEILING, arcs, cells) {
         Ok(bound) => print_dual(out, bound)?,
-        Err(refusal) => writeln!(out, "{refusal}")?,
+        Err(refusal) => print_refusal(out, refusal)?,
     }
     let mut plan = [0u8; SLOTS];
     match diagram::restricted(problem, WIDTH, arcs, cells, &mut plan) {
         Ok(bound) => print_primal(out, bound, &plan[..problem.problem.slots]),
-        Err(refusal) => writeln!(out, "{refusal}"),
+        Err(refusal) => print_refusal(out, refusal),
     }
 }
 
@@ -139,7 +184,7 @@ fn report_plans<W: io::Write>(
     let page = &mut page[..PLANS * problem.problem.slots];
     match pages::page(problem, WIDTH, ROUNDS, CEILING, &[], arcs, cells, page) {
         Ok(listed) => report_page(out, problem, listed, page),
-        Err(refusal) => writeln!(out, "{refusal}"),
+        Err(refusal) => print_refusal(out, refusal),
     }
 }
 
@@ -158,7 +203,7 @@ pub fn report_file<W: io::Write>(out: &mut W, file: &[u8]) -> io::Result<()> {
     match brennigou::problem_of(file) {
         Ok(problem) => report(out, &problem),
         Err(refusal) => {
-            writeln!(out, "{refusal}")?;
+            print_refusal(out, refusal)?;
             out.flush()
         }
     }
